@@ -1,0 +1,12 @@
+//! Bytes in and bytes out: sources and sinks that may fail, and the two loops over them.
+#![tactic(auto)]
+
+mod memory;
+mod reading;
+mod standard;
+mod streams;
+mod writing;
+
+pub use reading::{ReadEnd, read_all};
+pub use streams::{Failed, Sink, Source};
+pub use writing::{SinkFault, write_all};

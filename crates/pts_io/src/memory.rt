@@ -1,0 +1,1 @@
+//! Sources and sinks over memory, whose calls can be told to fail.

@@ -1,0 +1,1 @@
+//! Sources and sinks over the readers and writers of std.

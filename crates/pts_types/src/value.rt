@@ -1,0 +1,29 @@
+//! Values, what an evaluation may throw, and want of memory.
+
+/// The kind of a value.
+#[derive(Clone, Copy, Debug, PartialEq, Eq, Hash)]
+pub enum Kind {
+    I64,
+    U64,
+    Bool,
+}
+
+/// A value beside its kind.
+#[derive(Clone, Copy, Debug, PartialEq, Eq, Hash)]
+pub enum Value {
+    I64(i64),
+    U64(u64),
+    Bool(bool),
+}
+
+/// What an evaluation throws: a code of the script from 0 to 999, or a fault of the arithmetic.
+#[derive(Clone, Copy, Debug, PartialEq, Eq, Hash)]
+pub enum Thrown {
+    Code(u16),
+    Overflow,
+    DivZero,
+}
+
+/// There was no memory. It may come from every call that has it as an answer.
+#[derive(Clone, Copy, Debug, PartialEq, Eq, Hash)]
+pub struct NoMemory;
