@@ -1,0 +1,18 @@
+//! The answers of the top call.
+
+/// How a call ended, in the order of the program's exit statuses, which are 0 to 2 and 4 to 6.
+#[derive(Clone, Copy, Debug, PartialEq, Eq)]
+pub enum Status {
+    /// The script was run and all its lines were written.
+    Done,
+    /// The words are not in the grammar of the command line. Nothing was read or written.
+    Usage,
+    /// The script was refused, and its one line of refusal was written.
+    Refused,
+    /// The source failed. Nothing was written.
+    ReadFault,
+    /// The sink failed.
+    WriteFault,
+    /// There was no memory.
+    NoMemory,
+}

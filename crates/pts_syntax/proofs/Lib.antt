@@ -1,0 +1,3 @@
+pub mod Numerals
+pub mod Gaps
+pub mod Lexemes

@@ -1,0 +1,12 @@
+//! The script language: its tokens, and the first forms of its items.
+#![tactic(auto)]
+
+mod first;
+mod name;
+mod parse;
+mod token;
+
+pub use first::{First, FirstArray, FirstFault, FirstStatement};
+pub use name::Name;
+pub use parse::parse_first;
+pub use token::{LexFault, Token, TokenKind};

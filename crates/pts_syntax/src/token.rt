@@ -1,0 +1,263 @@
+//! The first token of a text.
+
+ghost use Rattle.std.specs.Prelude.{◌≡◌, ◌+◌, ◌-◌, ◌*◌, ◌^◌, ◌<◌, ◌≤◌, ◌↔◌, length, map, IsTrue, true, false};
+ghost use Rattle.std.specs.List.{prefix_len};
+ghost use Rattle.std.specs.Option.{SomeIff};
+ghost use Rattle.pts_syntax.specs.Lexical as lexical;
+ghost use Rattle.pts_syntax.specs.Scanning as spec;
+
+/// What a token is. A number has its value.
+#[derive(Clone, Copy, Debug, PartialEq, Eq)]
+pub enum TokenKind {
+    Word,
+    Name,
+    Number(u64),
+    Symbol,
+}
+
+/// A token from the byte at `start` up to the byte before `end`.
+#[derive(Clone, Copy, Debug, PartialEq, Eq)]
+pub struct Token {
+    pub kind: TokenKind,
+    pub start: usize,
+    pub end: usize,
+}
+
+/// The place at which no token begins, or the place of a number above 18446744073709551615.
+#[derive(Clone, Copy, Debug, PartialEq, Eq)]
+pub enum LexFault {
+    Byte(usize),
+    Number(usize),
+}
+
+/// The names that are words of the language.
+const WORDS: [&[u8]; 54] = [
+    b"pts",
+    b"const",
+    b"array",
+    b"fn",
+    b"list",
+    b"fill",
+    b"iota",
+    b"step",
+    b"mix",
+    b"i64",
+    b"u64",
+    b"bool",
+    b"true",
+    b"false",
+    b"if",
+    b"then",
+    b"else",
+    b"throw",
+    b"seq",
+    b"par",
+    b"par_unseq",
+    b"unseq",
+    b"vec",
+    b"for_each",
+    b"transform",
+    b"find_if",
+    b"count_if",
+    b"reduce",
+    b"transform_reduce",
+    b"inclusive_scan",
+    b"exclusive_scan",
+    b"transform_inclusive_scan",
+    b"transform_exclusive_scan",
+    b"for_loop",
+    b"task_block",
+    b"print",
+    b"init",
+    b"into",
+    b"to",
+    b"as",
+    b"induct",
+    b"identity",
+    b"let",
+    b"vec_off",
+    b"ordered",
+    b"run",
+    b"wait",
+    b"plus",
+    b"multiplies",
+    b"bit_and",
+    b"bit_or",
+    b"bit_xor",
+    b"min",
+    b"max",
+];
+
+fn is_white(b: u8) -> bool
+    ensures { result ≡ lexical.is_white b }
+{
+    matches!(b, b' ' | b'\t' | b'\n' | b'\r')
+}
+
+fn is_letter(b: u8) -> bool
+    ensures { result ≡ lexical.is_letter b }
+{
+    matches!(b, b'a'..=b'z' | b'A'..=b'Z' | b'_')
+}
+
+fn is_digit(b: u8) -> bool
+    ensures { result ≡ lexical.is_digit b }
+{
+    matches!(b, b'0'..=b'9')
+}
+
+fn is_letter_or_digit(b: u8) -> bool
+    ensures { result ≡ lexical.is_letter_or_digit b }
+{
+    is_letter(b) || is_digit(b)
+}
+
+fn is_single(b: u8) -> bool
+    ensures { result ≡ spec.is_single b }
+{
+    matches!(
+        b,
+        b';' | b':' | b',' | b'=' | b'(' | b')' | b'[' | b']' | b'{' | b'}' | b'+' | b'-' | b'*' | b'/' | b'%' | b'&' | b'|' | b'^' | b'!' | b'<' | b'>'
+    )
+}
+
+fn is_double(a: u8, b: u8) -> bool
+    ensures { result ≡ spec.is_double a b }
+{
+    match b {
+        b'=' => matches!(a, b'~' | b'+' | b'-' | b'*' | b'&' | b'|' | b'^' | b'=' | b'!' | b'<' | b'>'),
+        b'>' => a == b'-',
+        b'.' => a == b'.',
+        b'&' => a == b'&',
+        b'|' => a == b'|',
+        _ => false,
+    }
+}
+
+fn symbol_len(bytes: &[u8]) -> usize
+    ensures value { result ≡ spec.symbol_len bytes.now }
+    ensures within { result ≤ length bytes.now }
+{
+    match bytes {
+        [a, b, ..] if is_double(*a, *b) => 2,
+        [a, ..] if is_single(*a) => 1,
+        _ => 0,
+    }
+}
+
+fn blank_len(bytes: &[u8]) -> usize
+    ensures value { result ≡ spec.blank_len false bytes.now }
+    ensures within { result ≤ length bytes.now }
+{
+    let mut is_comment = false;
+    for (at, b) in bytes.iter().enumerate() {
+        if is_comment {
+            is_comment = *b != b'\n';
+        } else if *b == b'#' {
+            is_comment = true;
+        } else if !is_white(*b) {
+            return at;
+        }
+    }
+    bytes.len()
+}
+
+// The length of the longest front of bytes that pass.
+fn letters_len(bytes: &[u8]) -> usize
+    ensures value { result ≡ prefix_len lexical.is_letter_or_digit bytes.now }
+    ensures within { result ≤ length bytes.now }
+{
+    bytes.iter().take_while(|b| is_letter_or_digit(**b)).count()
+}
+
+fn digits_len(bytes: &[u8]) -> usize
+    ensures value { result ≡ prefix_len lexical.is_digit bytes.now }
+    ensures within { result ≤ length bytes.now }
+{
+    bytes.iter().take_while(|b| is_digit(**b)).count()
+}
+
+fn lexeme_len(bytes: &[u8]) -> usize
+    ensures value { result ≡ spec.lexeme_len bytes.now }
+    ensures within { result ≤ length bytes.now }
+{
+    match bytes {
+        [] => 0,
+        [b, rest @ ..] if is_letter(*b) => 1 + letters_len(rest),
+        [b, rest @ ..] if is_digit(*b) => 1 + digits_len(rest),
+        _ => symbol_len(bytes),
+    }
+}
+
+fn is_among(mut texts: &[&[u8]], text: &[u8]) -> bool
+    ensures { result ≡ lexical.is_among (map (λ t. t.now) texts.entry.now) text.now }
+{
+    while let [first, rest @ ..] = texts {
+        if *first == text {
+            return true;
+        }
+        texts = rest;
+    }
+    false
+}
+
+#[tactic(auto, unfolding(crate::specs::Lexical::words))]
+fn is_word(text: &[u8]) -> bool
+    ensures { result ≡ lexical.is_among lexical.words text.now }
+{
+    is_among(&WORDS, text)
+}
+
+#[tactic(auto, using(crate::proofs::Numerals::too_great, crate::proofs::Numerals::all_read))]
+fn number_of(digits: &[u8]) -> Option<u64>
+    ensures { SomeIff result (lexical.number_of digits.now < 2 ^ 64) (lexical.number_of digits.now) }
+{
+    let mut number: u64 = 0;
+    for digit in digits {
+        number = number
+            .checked_mul(10)?
+            .checked_add(u64::from(digit.saturating_sub(b'0')))?;
+    }
+    Some(number)
+}
+
+#[tactic(auto, unfolding(crate::specs::Scanning::kind_of))]
+fn kind_of(text: &[u8]) -> Option<TokenKind>
+    ensures { result ≡ spec.kind_of text.now }
+{
+    let first = text.first()?;
+    if is_letter(*first) {
+        return Some(if is_word(text) {
+            TokenKind::Word
+        } else {
+            TokenKind::Name
+        });
+    }
+    if is_digit(*first) {
+        return Some(TokenKind::Number(number_of(text)?));
+    }
+    Some(TokenKind::Symbol)
+}
+
+#[tactic(auto, unfolding(crate::specs::Scanning::scan))]
+fn scan(bytes: &[u8]) -> Result<Option<Token>, LexFault>
+    ensures { result ≡ spec.scan bytes.now }
+{
+    let start = blank_len(bytes);
+    let text = &bytes[start..];
+    if text.is_empty() {
+        return Ok(None);
+    }
+    let len = lexeme_len(text);
+    if len == 0 {
+        return Err(LexFault::Byte(start));
+    }
+    match kind_of(&text[..len]) {
+        Some(kind) => Ok(Some(Token {
+            kind,
+            start,
+            end: start + len,
+        })),
+        None => Err(LexFault::Number(start)),
+    }
+}
