@@ -7,6 +7,8 @@ mod standard;
 mod streams;
 mod writing;
 
+pub use memory::{MemorySink, MemorySource};
 pub use reading::{ReadEnd, read_all};
+pub use standard::{StdSink, StdSource};
 pub use streams::{Failed, Sink, Source};
 pub use writing::{SinkFault, write_all};
