@@ -5,6 +5,8 @@ mod memory;
 mod reading;
 mod standard;
 mod streams;
+#[cfg(test)]
+mod tests;
 mod writing;
 
 pub use memory::{MemorySink, MemorySource};
