@@ -1,10 +1,14 @@
 -- When a call on the outside may fail, and what of a stream of bytes goes through a loop over it.
-use Rattle.std.specs.Prelude.{◌≡◌, ◌⊎◌, ℕ, ◌<◌, List, Option, length}
+use Rattle.std.specs.Prelude.{◌≡◌, ◌⊎◌, ℕ, ◌+◌, ◌<◌, List, Option, length, min}
 use Rattle.std.specs.Io.KnownBytes.{Consumes}
 
 -- a count of faults stands still at this number
 abbrev pub last_count : ℕ
 last_count = 18446744073709551615
+
+-- a count after one more, which stands still at its last value
+abbrev pub raised : ℕ → ℕ
+raised count = min (count + 1) last_count
 
 -- a count of faults rose, or stands at its last value
 abbrev pub HasRisen : ℕ → ℕ → Type 0

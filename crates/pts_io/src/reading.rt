@@ -2,10 +2,14 @@
 
 ghost use Rattle.std.specs.Prelude.{◌≡◌, ◌+◌, ◌<◌, ◌≤◌, length, vec_len, Err, IfOk, IfSome, IsErr, OnOk, OnErr};
 ghost use Rattle.std.specs.Io.KnownBytes.{Consumes, IsAtEnd};
+ghost use Rattle.pts_io.specs.declared.reading.ReadEnd.TheVariants.{NoMemory};
 ghost use Rattle.pts_io.specs.Streams.{HasRisen, KeepsAnEnd, LosesFront};
 
 use crate::streams::Source;
-use std::alloc::Global;
+use std::alloc::{AllocError, Global};
+
+// A source is asked for at most this many bytes at once.
+const CHUNK: usize = 8192;
 
 /// Why a source was not read to its end.
 #[derive(Clone, Copy, Debug, PartialEq, Eq)]
@@ -13,6 +17,14 @@ pub enum ReadEnd {
     Fault,
     TooLong,
     NoMemory,
+}
+
+impl From<AllocError> for ReadEnd {
+    ghost from_gives = { λ _ end. end ≡ NoMemory };
+
+    fn from(_: AllocError) -> Self {
+        ReadEnd::NoMemory
+    }
 }
 
 /// All that the source has left, where that is at most `limit` bytes.
@@ -29,6 +41,15 @@ pub fn read_all<S: Source>(alloc: Global, source: &mut S, limit: usize) -> Resul
     ensures rest { OnErr result (KeepsAnEnd (S.left source.old) (S.left source.new)) }
     ensures counts { S.faults source.old ≤ S.faults source.new }
 {
-    let _ = (alloc, source, limit);
-    Err(ReadEnd::NoMemory)
+    let mut bytes = Vec::new(alloc);
+    let mut chunk = [0; CHUNK];
+    while bytes.len() <= limit {
+        let wanted = CHUNK.min(limit + 1 - bytes.len());
+        match source.next(&mut chunk[..wanted]) {
+            Ok(0) => return Ok(bytes),
+            Ok(n) => bytes.extend_from_slice(&chunk[..n])?,
+            Err(_) => return Err(ReadEnd::Fault),
+        }
+    }
+    Err(ReadEnd::TooLong)
 }

@@ -21,7 +21,7 @@ pub trait Source {
         requires { 0 < length buf.old }
         ensures bound { IfOk result (λ n. n ≤ length buf.old) }
         ensures moved { IfOk result (λ n. Consumes (left self.old) (left self.new) (take n buf.new)) }
-        ensures end { result ≡ Ok 0 → IsAtEnd (left self.old) }
+        ensures end { result ≡ Ok 0 → IsAtEnd (left self.new) }
 
         // A call fails only where the outside did, and then it takes nothing.
         ensures failed { OnErr result (HasRisen (faults self.old) (faults self.new)) }
