@@ -49,7 +49,7 @@ symbol_sign b [] h = sign_is b (single_sign b singles h refl)
 symbol_sign b (c ∷ []) h = sign_is b (double_sign b c doubles h refl)
 symbol_sign b (c ∷ d ∷ bs) h = absurd h
 
-digit_not_letter : (b : ℕ) → is_digit b ≡ true → is_letter b ≡ false
+pub digit_not_letter : (b : ℕ) → is_digit b ≡ true → is_letter b ≡ false
 digit_not_letter b h =
     let p = and_parts (leb 48 b) (leb b 57) h in
     let high : b ≤ 57 = leb-true b 57 p.1 in

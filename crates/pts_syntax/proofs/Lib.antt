@@ -1,3 +1,5 @@
-pub mod Numerals
 pub mod Gaps
 pub mod Lexemes
+pub mod Numerals
+pub mod Scans
+pub mod Spellings

@@ -1,6 +1,6 @@
 //! The first token of a text.
 
-ghost use Rattle.std.specs.Prelude.{◌≡◌, ◌+◌, ◌-◌, ◌*◌, ◌^◌, ◌<◌, ◌≤◌, ◌↔◌, length, map, IsTrue, true, false};
+ghost use Rattle.std.specs.Prelude.{◌≡◌, ◌+◌, ◌-◌, ◌*◌, ◌^◌, ◌<◌, ◌≤◌, ◌↔◌, length, map, false, IfErr, IfOk, IfSome};
 ghost use Rattle.std.specs.List.{prefix_len};
 ghost use Rattle.std.specs.Option.{SomeIff};
 ghost use Rattle.pts_syntax.specs.Lexical as lexical;
@@ -260,4 +260,14 @@ fn scan(bytes: &[u8]) -> Result<Option<Token>, LexFault>
         })),
         None => Err(LexFault::Number(start)),
     }
+}
+
+/// The first token of a text. `None` comes exactly where white space and comments are all there is. A fault comes where
+/// behind these a byte begins no token, or where a number above 18446744073709551615 stands.
+pub fn first_token(bytes: &[u8]) -> Result<Option<Token>, LexFault>
+    ensures token { IfOk result (λ found. IfSome found (lexical.IsFirstToken bytes.now)) }
+    ensures none { (result ≡ Ok None) ↔ lexical.IsBlank bytes.now }
+    ensures fault { IfErr result (lexical.IsLexFault bytes.now) }
+{
+    scan(bytes)
 }
