@@ -1,3 +1,4 @@
+pub mod Cells
 pub mod Gaps
 pub mod Lexemes
 pub mod Numerals

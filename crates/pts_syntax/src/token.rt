@@ -239,9 +239,12 @@ fn kind_of(text: &[u8]) -> Option<TokenKind>
     Some(TokenKind::Symbol)
 }
 
+// `first_token` by the steps that it takes.
 #[tactic(auto, unfolding(crate::specs::Scanning::scan))]
-fn scan(bytes: &[u8]) -> Result<Option<Token>, LexFault>
-    ensures { result ≡ spec.scan bytes.now }
+pub fn scan(bytes: &[u8]) -> Result<Option<Token>, LexFault>
+    ensures value { result ≡ spec.scan bytes.now }
+    ensures ordered { IfOk result (λ found. IfSome found (λ t. t.start ≤ t.end)) }
+    ensures within { IfOk result (λ found. IfSome found (λ t. t.end ≤ length bytes.now)) }
 {
     let start = blank_len(bytes);
     let text = &bytes[start..];
