@@ -6,8 +6,8 @@ use Rattle.pts_syntax.specs.declared.first.First.{First}
 use Rattle.pts_syntax.specs.declared.first.FirstArray.{FirstArray}
 use Rattle.pts_syntax.specs.declared.first.FirstStatement.{FirstStatement}
 use Rattle.pts_syntax.specs.declared.first.FirstStatement.TheVariants.{Reduce, Print}
-use Rattle.pts_syntax.specs.declared.parse.Stop.{Stop}
-use Rattle.pts_syntax.specs.declared.parse.Stop.TheVariants as stops
+use Rattle.pts_syntax.specs.declared.reader.Stop.{Stop}
+use Rattle.pts_syntax.specs.declared.reader.Stop.TheVariants as stops
 use Rattle.pts_syntax.specs.declared.token.LexFault.{LexFault}
 use Rattle.pts_syntax.specs.declared.token.Token.{Token}
 use Rattle.pts_syntax.specs.declared.token.TokenKind.{TokenKind}
@@ -79,7 +79,7 @@ cells (suc count) bytes = number bytes >>= λ n. more_cells count n.1 >>= λ m. 
 -- the number of the first array of this name
 abbrev pub place_of : List FirstArray → List ℕ → Option ℕ
 place_of [] q = None
-place_of (a ∷ rest) q = if bytes_eq q a.name then Some 0 else option_map suc (place_of rest q)
+place_of (a ∷ rest) q = if bytes_eq a.name q then Some 0 else option_map suc (place_of rest q)
 
 abbrev pub cell_count : First → ℕ
 cell_count script = sum_by (λ a. length a.cells) script.arrays

@@ -2,8 +2,10 @@
 #![tactic(auto)]
 
 mod first;
+mod items;
 mod name;
 mod parse;
+mod reader;
 mod token;
 
 pub use first::{First, FirstArray, FirstFault, FirstStatement};

@@ -1,7 +1,7 @@
 use Rattle.std.proofs.Common.{◌≡◌}
 use Rattle.pts_syntax.specs.Reading as spec
 use Rattle.pts_syntax.proofs.Cells.{with_front}
-use Rattle.pts_syntax.proofs.parse.cells.Given as goal
+use Rattle.pts_syntax.proofs.reader.cells.Given as goal
 
 abbrev pub invariant-loop-left : goal.invariant-loop-left
 invariant-loop-left l = with_front l.found.items (spec.more_cells l.left l.rest) ≡ spec.cells l.count l.bytes
