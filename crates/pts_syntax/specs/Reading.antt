@@ -12,7 +12,7 @@ use Rattle.pts_syntax.specs.declared.token.LexFault.{LexFault}
 use Rattle.pts_syntax.specs.declared.token.Token.{Token}
 use Rattle.pts_syntax.specs.declared.token.TokenKind.{TokenKind}
 use Rattle.pts_syntax.specs.declared.token.TokenKind.TheVariants as kinds
-use Rattle.pts_syntax.specs.First.{Item, Declares, Does, cells_at, cell_limit, statement_limit}
+use Rattle.pts_syntax.specs.First.{Item, Declares, Does, cells_at, cell_limit, statement_limit, with_item}
 use Rattle.pts_syntax.specs.Scanning.{scan}
 
 infixl 10 ◌>>=◌
@@ -122,3 +122,7 @@ item_by script x =
 
 unfoldable pub item : First → List ℕ → Option (Item × List ℕ)
 item script bytes = next bytes >>= item_by script
+
+-- the script with the item at the front
+abbrev pub with_next : First → List ℕ → Option (First × List ℕ)
+with_next script bytes = item script bytes >>= λ x. Some (with_item script x.0, x.1)

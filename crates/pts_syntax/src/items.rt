@@ -8,7 +8,7 @@ ghost use Rattle.pts_syntax.specs.Reading.{Gives};
 
 use crate::first::{First, FirstArray, FirstStatement};
 use crate::name::Name;
-use crate::reader::{Stop, cells, expect, expect_all, name, number};
+use crate::reader::{Stop, cells, expect, expect_all, name, next, number};
 use sqlite_items::Items;
 use std::alloc::{AllocError, Global};
 use std::collections::BTreeMap;
@@ -67,7 +67,12 @@ impl Draft {
     /// An array, behind its word.
     #[tactic(auto, unfolding(crate::specs::Reading::array))]
     fn array<'a>(&self, alloc: Global, bytes: &'a [u8]) -> Result<(FirstArray, &'a [u8]), Stop>
-        ensures { Gives (λ x. (x.0, x.1.now)) result (spec.array self.now.script bytes.now) }
+        ensures value { Gives (λ x. (x.0, x.1.now)) result (spec.array self.now.script bytes.now) }
+
+        // The array is whole behind the script.
+        ensures new { IfOk result (λ x. spec.place_of self.now.script.arrays x.0.name ≡ None) }
+        ensures some { IfOk result (λ x. 0 < length x.0.cells) }
+        ensures room { IfOk result (λ x. spec.cell_count self.now.script + length x.0.cells ≤ cell_limit) }
     {
         let (name, rest) = name(bytes)?;
         let rest = expect_all(&[b":", b"u64", b"["], rest)?;
@@ -156,5 +161,28 @@ impl Draft {
             places,
             cells,
         })
+    }
+
+    /// The script with the item that stands at the front of the bytes, and what follows it.
+    #[tactic(auto, unfolding(crate::specs::Reading::item))]
+    pub fn with_next(self, alloc: Global, bytes: &[u8]) -> Result<(Draft, &[u8]), Stop>
+        ensures { Gives (λ x. (x.0.script, x.1.now)) result (spec.with_next self.script bytes.now) }
+    {
+        let (_, word, rest) = next(bytes)?;
+        if word == b"array" {
+            let (array, rest) = self.array(alloc, rest)?;
+            return Ok((self.with_array(alloc, array)?, rest));
+        }
+        if self.script.statements.len() >= STATEMENT_LIMIT {
+            return Err(Stop::NotWhole);
+        }
+        let (statement, rest) = if word == b"reduce" {
+            self.reduce(rest)?
+        } else if word == b"print" {
+            self.print(rest)?
+        } else {
+            return Err(Stop::NotWhole);
+        };
+        Ok((self.with_statement(statement)?, rest))
     }
 }

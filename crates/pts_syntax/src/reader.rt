@@ -1,6 +1,6 @@
 //! Reading the tokens of an item from the left. What is read is given with the bytes that follow it.
 
-ghost use Rattle.std.specs.Prelude.{◌≡◌, map};
+ghost use Rattle.std.specs.Prelude.{◌≡◌, ◌<◌, length, map, IfOk, OnOk};
 ghost use Rattle.pts_syntax.specs.Reading as spec;
 ghost use Rattle.pts_syntax.specs.Reading.{Gives};
 ghost use Rattle.pts_syntax.specs.declared.reader.Stop.TheVariants.{NoMemory};
@@ -96,7 +96,9 @@ pub fn expect_all<'a>(mut texts: &[&[u8]], bytes: &'a [u8]) -> Result<&'a [u8], 
 // So many numbers, a comma between any two.
 #[tactic(auto, using(crate::proofs::Cells::cells_loop))]
 pub fn cells(alloc: Global, count: u64, bytes: &[u8]) -> Result<(Items<u64>, &[u8]), Stop>
-    ensures { Gives (λ x. (x.0, x.1.now)) result (spec.cells count bytes.now) }
+    ensures value { Gives (λ x. (x.0, x.1.now)) result (spec.cells count bytes.now) }
+    ensures len { IfOk result (λ x. length x.0 ≡ count) }
+    ensures some { OnOk result (0 < count) }
 {
     if count == 0 {
         return Err(Stop::NotWhole);
