@@ -1,6 +1,6 @@
 //! Sources and sinks over memory, whose calls can be told to fail.
 
-ghost use Rattle.std.specs.Prelude.{◌≡◌, ◌⊎◌, ◌+◌, ◌≤◌, ◌↔◌, ◌++◌, List, ℕ, Some, length, take, drop, min, vec_len, vec_capacity, Contains, IfOk, IsErr, OnErr};
+ghost use Rattle.std.specs.Prelude.{◌≡◌, ◌⊎◌, ◌+◌, ◌≤◌, ◌↔◌, ◌++◌, List, ℕ, Some, length, take, drop, min, vec_len, vec_capacity, Contains, IfOk, IsOk, IsErr, OnErr};
 ghost use Rattle.pts_io.specs.Memory.{SourceState, SinkState, new_source, source_without, failed_source, new_sink, sink_with, failed_sink};
 
 use crate::streams::{Failed, Sink, Source};
@@ -90,7 +90,8 @@ impl Model for MemorySink {
 impl MemorySink {
     /// A sink with room for this many bytes. `fails` are the numbers of the calls that fail, and the first call has number 0.
     pub fn new(alloc: Global, room: usize, fails: Vec<u64>) -> Result<MemorySink, NoMemory>
-        ensures { IfOk result (λ sink. sink ≡ new_sink room fails.items) }
+        ensures ok { IfOk result (λ sink. sink ≡ new_sink room fails.items) }
+        ensures empty { room ≡ 0 → IsOk result }
     {
         let bytes = Vec::with_capacity(alloc, room).map_err(|_| NoMemory)?;
         Ok(MemorySink {
