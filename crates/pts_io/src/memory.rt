@@ -46,7 +46,7 @@ impl Source for MemorySource {
 
     ghost faults = { λ s. s.faults };
 
-    /// Fills `buf` as far as bytes are left. Calls past the last count have its number.
+    /// Fills `buf` as far as bytes are left. The number of a call stands still at `u64::MAX`, as does the count of faults.
     fn next(&mut self, buf: &mut [u8]) -> Result<usize, Failed>
         ensures fails { IsErr result ↔ Contains self.old.fails self.old.calls }
         ensures fault { OnErr result (self.new ≡ failed_source self.old) }
@@ -88,7 +88,8 @@ impl Model for MemorySink {
 }
 
 impl MemorySink {
-    /// A sink with room for this many bytes. `fails` are the numbers of the calls that fail, and the first call has number 0.
+    /// A sink with room for this many bytes, whose memory is taken here. `fails` are the numbers of the calls that fail,
+    /// and the first call has number 0.
     pub fn new(alloc: Global, room: usize, fails: Vec<u64>) -> Result<MemorySink, NoMemory>
         ensures ok { IfOk result (λ sink. sink ≡ new_sink room fails.items) }
         ensures empty { room ≡ 0 → IsOk result }
@@ -116,7 +117,8 @@ impl Sink for MemorySink {
 
     ghost faults = { λ s. s.faults };
 
-    /// Takes as much of the piece as there is room for, and fails where there is none. Calls past the last count have its number.
+    /// Takes as much of the piece as there is room for, and fails where there is none. It takes no memory.
+    /// The number of a call stands still at `u64::MAX`, as does the count of faults.
     fn put(&mut self, piece: &[u8]) -> Result<usize, Failed>
         ensures fails { IsErr result ↔ (Contains self.old.fails self.old.calls ⊎ (self.old.room ≡ 0)) }
         ensures fault { OnErr result (self.new ≡ failed_sink self.old) }
