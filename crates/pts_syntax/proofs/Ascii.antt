@@ -1,6 +1,6 @@
 -- A name is ASCII text.
-use Rattle.std.proofs.Common.{◌≡◌, ℕ, ◌<◌, ◌≤◌, Bool, true, false, leb, eqb, List, [], ◌∷◌, zero, suc, get_or, drop, subst, Some, None, Ok, Err, Option, Result, refl, ap, ◌∙◌, inl, inr, arith}
-use Rattle.std.specs.Prelude.{◌||◌, ◌&&◌}
+use Rattle.std.proofs.Common.{◌≡◌, ℕ, ◌<◌, ◌≤◌, true, leb, eqb, List, [], ◌∷◌, zero, suc, get_or, drop, subst, Some, None, Ok, Err, Option, Result, refl, ap, ◌∙◌, inl, inr, arith}
+use Rattle.std.specs.Prelude.{◌&&◌}
 use Rattle.std.specs.List.{list_all, slice_range}
 use Rattle.std.specs.Str.{IsAscii, IsUtf8}
 use Rattle.std.proofs.lemmas.Bool.{eqb-true, leb-true, and_parts, or_cases}
@@ -18,9 +18,9 @@ letter_below : (b : ℕ) → is_letter b ≡ true → b < 128
 letter_below b h =
     elim (or_cases _ (eqb b 95) h) [
       | inl either ↦ elim (or_cases (leb 97 b && leb b 122) (leb 65 b && leb b 90) either) [
-          | inl small ↦ let top : b ≤ 122 = leb-true b 122 (and_parts (leb 97 b) (leb b 122) small).1 in omega arith
-          | inr large ↦ let top : b ≤ 90 = leb-true b 90 (and_parts (leb 65 b) (leb b 90) large).1 in omega arith
-        ]
+        | inl small ↦ let top : b ≤ 122 = leb-true b 122 (and_parts (leb 97 b) (leb b 122) small).1 in omega arith
+        | inr large ↦ let top : b ≤ 90 = leb-true b 90 (and_parts (leb 65 b) (leb b 90) large).1 in omega arith
+      ]
       | inr bar ↦ let e : b ≡ 95 = eqb-true b 95 bar in omega arith
     ]
 

@@ -1,13 +1,13 @@
 -- Arrays by their numbers and by their names.
-use Rattle.std.proofs.Common.{◌≡◌, ◌≢◌, ℕ, zero, suc, ◌+◌, ◌<◌, ◌≤◌, Bool, true, false, cond, List, [], ◌∷◌, ◌++◌, length, get_or, Some, None, Option, refl, sym, ap, subst, ◌∙◌, inl, inr, arith}
-use Rattle.std.specs.Prelude.{IfSome, All, sum_by}
+use Rattle.std.proofs.Common.{◌≡◌, ℕ, zero, suc, ◌+◌, ◌<◌, Bool, true, false, cond, List, [], ◌∷◌, ◌++◌, length, get_or, Some, None, Option, refl, sym, ap, ◌∙◌, inl, inr, arith}
+use Rattle.std.specs.Prelude.{IfSome, sum_by}
 use Rattle.std.specs.Option.{option_map}
 use Rattle.std.specs.Str.{bytes_eq}
 use Rattle.std.proofs.lemmas.Bool.{cases_Bool, both_ways, false_from_ne_true}
 use Rattle.std.proofs.lemmas.List.Sums.{sum_by-append}
 use Rattle.std.proofs.lemmas.Slice.Eq.{bytes_eq-Decides}
 use Rattle.pts_syntax.specs.declared.first.FirstArray.{FirstArray}
-use Rattle.pts_syntax.specs.First.{name_at, cells_at}
+use Rattle.pts_syntax.specs.First.{cells_at}
 use Rattle.pts_syntax.specs.Reading.{place_of}
 
 place_within : (arrays : List FirstArray) (q : List ℕ) → IfSome (place_of arrays q) (λ at. at < length arrays)
@@ -30,15 +30,18 @@ cells_are [] at a within e = absurd (omega arith)
 cells_are (b ∷ rest) zero a within e = ap (λ (x : FirstArray). x.cells) (sym e)
 cells_are (b ∷ rest) (suc at) a within e = cells_are rest at a (omega arith) e
 
+some_none : (n : ℕ) → Some n ≡ None → ⊥
+some_none n e = cc
+
 not_at : (o : Option ℕ) → option_map suc o ≡ None → o ≡ None
 not_at None e = refl
 not_at (Some n) e = absurd (cc)
 
 -- a name that no array has is new to the first and to the rest
-new_parts : (b : FirstArray) (rest : List FirstArray) (q : List ℕ) → place_of (b ∷ rest) q ≡ None → (bytes_eq b.name q ≡ false) × (place_of rest q ≡ None)
+pub new_parts : (b : FirstArray) (rest : List FirstArray) (q : List ℕ) → place_of (b ∷ rest) q ≡ None → (bytes_eq b.name q ≡ false) × (place_of rest q ≡ None)
 new_parts b rest q new =
     elim (cases_Bool (bytes_eq b.name q)) [
-      | inl same ↦ let found : Some 0 ≡ None = rw same at new in absurd (cc)
+      | inl same ↦ absurd (some_none 0 (rw same at new))
       | inr other ↦ (other, not_at (place_of rest q) (rw other at new))
     ]
 

@@ -1,12 +1,11 @@
 -- The scanner finds the first token of a text, and the fault where there is none.
-use Rattle.std.proofs.Common.{◌≡◌, ◌≢◌, ℕ, zero, suc, ◌+◌, ◌-◌, ◌^◌, ◌<◌, ◌≤◌, Bool, true, false, cond, eqb, List, [], ◌∷◌, ◌++◌, length, get_or, take, drop, Some, None, Ok, Err, Option, Result, refl, sym, ap, subst, ◌∙◌, inl, inr, arith, append_assoc, length-append}
+use Rattle.std.proofs.Common.{◌≡◌, ℕ, suc, ◌+◌, ◌-◌, ◌≤◌, false, eqb, List, [], ◌∷◌, ◌++◌, length, get_or, take, drop, Some, None, Ok, Err, Option, Result, refl, sym, ap, ◌∙◌, arith, append_assoc, length-append}
 use Rattle.std.proofs.lemmas.Bool.{ne_eqb, eqb-false}
-use Rattle.std.proofs.lemmas.List.{take_at, drop_at, append-nil, drop_all}
+use Rattle.std.proofs.lemmas.List.{take_at, drop_at, drop_all}
 use Rattle.pts_syntax.specs.declared.token.LexFault.{LexFault}
 use Rattle.pts_syntax.specs.declared.token.LexFault.TheVariants as faults
 use Rattle.pts_syntax.specs.declared.token.Token.{Token}
 use Rattle.pts_syntax.specs.declared.token.TokenKind.{TokenKind}
-use Rattle.pts_syntax.specs.declared.token.TokenKind.TheVariants as kinds
 use Rattle.std.specs.Prelude.{◌↔◌, IfOk, IfErr, IfSome}
 use Rattle.std.specs.List.{slice_range}
 use Rattle.pts_syntax.specs.Lexical.{IsLexeme, IsSpelling, IsBlank, IsGap, IsFirstToken, IsStrayByte, IsGreatNumber, IsLexFault, Cuts, hash}
@@ -84,7 +83,7 @@ pub record Lies (bytes gap text rest : List ℕ) : Type 0 where
   pub behind : drop (length gap + length text) bytes ≡ rest
   pub within : length gap + length text ≤ length bytes
 
-lies : (bytes gap text rest : List ℕ) → bytes ≡ gap ++ (text ++ rest) → Lies bytes gap text rest
+pub lies : (bytes gap text rest : List ℕ) → bytes ≡ gap ++ (text ++ rest) → Lies bytes gap text rest
 lies bytes gap text rest e =
     let at : drop (length gap) bytes ≡ text ++ rest = rw e (drop_at gap (text ++ rest) (length gap) refl) in
     let over : (length gap + length text) - length gap ≡ length text = omega arith in

@@ -1,6 +1,6 @@
 -- Reading an item of the first scripts from the left.
-use Rattle.std.specs.Prelude.{◌≡◌, ℕ, zero, suc, ◌+◌, Bool, true, false, ◌&&◌, nat_lt, nat_le, if◌then◌else◌, List, [], ◌∷◌, length, drop, slice_range, sum_by, codes, Option, Some, None, is_none, Result, Ok, Err}
-use Rattle.std.specs.Option.{option_map, option_and_then}
+use Rattle.std.specs.Prelude.{◌≡◌, ℕ, zero, suc, ◌+◌, Bool, true, false, ◌&&◌, ◌==◌, nat_lt, nat_le, if◌then◌else◌, List, [], ◌∷◌, length, drop, slice_range, sum_by, codes, Option, Some, None, is_none, Result, Ok, Err}
+use Rattle.std.specs.Option.{option_map}
 use Rattle.std.specs.Str.{bytes_eq}
 use Rattle.pts_syntax.specs.declared.first.First.{First}
 use Rattle.pts_syntax.specs.declared.first.FirstArray.{FirstArray}
@@ -15,10 +15,13 @@ use Rattle.pts_syntax.specs.declared.token.TokenKind.TheVariants as kinds
 use Rattle.pts_syntax.specs.First.{Item, Declares, Does, cells_at, cell_limit, statement_limit, with_item}
 use Rattle.pts_syntax.specs.Scanning.{scan}
 
+unfoldable pub and_then : {A B : Type 0} → Option A → (A → Option B) → Option B
+and_then None f = None
+and_then (Some x) f = f x
+
 infixl 10 ◌>>=◌
 abbrev pub ◌>>=◌ : {A B : Type 0} → Option A → (A → Option B) → Option B
-None >>= f = None
-(Some x) >>= f = f x
+o >>= f = and_then o f
 
 -- what a function returned, seen by view, is what was read, unless memory ran out
 abbrev pub Gives : {X Y : Type 0} → (X → Y) → Result X Stop → Option Y → Type 0
@@ -126,3 +129,6 @@ item script bytes = next bytes >>= item_by script
 -- the script with the item at the front
 abbrev pub with_next : First → List ℕ → Option (First × List ℕ)
 with_next script bytes = item script bytes >>= λ x. Some (with_item script x.0, x.1)
+
+unfoldable pub header : List ℕ → Option (List ℕ)
+header bytes = expect (codes "pts") bytes >>= λ r. number r >>= λ version. when (version.0 == 1) (expect (codes ";") version.1)

@@ -49,6 +49,20 @@ impl Draft {
         }
     }
 
+    /// How many items were read.
+    pub fn items(&self) -> u32
+        ensures value { result ≡ length self.now.script.arrays + length self.now.script.statements }
+        ensures within { result ≤ cell_limit + statement_limit }
+    {
+        self.script.arrays.len() as u32 + self.script.statements.len() as u32
+    }
+
+    pub fn into_script(self) -> First
+        ensures { result ≡ self.script }
+    {
+        self.script
+    }
+
     fn place(&self, name: &str) -> Option<u32>
         ensures value { result ≡ spec.place_of self.now.script.arrays name.now }
         ensures within { IfSome result (λ at. at < length self.now.script.arrays) }
@@ -65,7 +79,7 @@ impl Draft {
     }
 
     /// An array, behind its word.
-    #[tactic(auto, unfolding(crate::specs::Reading::array))]
+    #[tactic(auto, unfolding(crate::specs::Reading::and_then, crate::specs::Reading::array))]
     fn array<'a>(&self, alloc: Global, bytes: &'a [u8]) -> Result<(FirstArray, &'a [u8]), Stop>
         ensures value { Gives (λ x. (x.0, x.1.now)) result (spec.array self.now.script bytes.now) }
 
@@ -88,7 +102,7 @@ impl Draft {
     }
 
     /// A sum, behind its word.
-    #[tactic(auto, unfolding(crate::specs::Reading::reduce))]
+    #[tactic(auto, unfolding(crate::specs::Reading::and_then, crate::specs::Reading::reduce))]
     fn reduce<'a>(&self, bytes: &'a [u8]) -> Result<(FirstStatement, &'a [u8]), Stop>
         ensures { Gives (λ x. (x.0, x.1.now)) result (spec.reduce self.now.script bytes.now) }
     {
@@ -108,11 +122,19 @@ impl Draft {
             return Err(Stop::NotWhole);
         }
         let (low, high) = (low as u32, high as u32);
-        Ok((FirstStatement::Reduce { array, low, high, init }, rest))
+        Ok((
+            FirstStatement::Reduce {
+                array,
+                low,
+                high,
+                init,
+            },
+            rest,
+        ))
     }
 
     /// Printing, behind its word.
-    #[tactic(auto, unfolding(crate::specs::Reading::print))]
+    #[tactic(auto, unfolding(crate::specs::Reading::and_then, crate::specs::Reading::print))]
     fn print<'a>(&self, bytes: &'a [u8]) -> Result<(FirstStatement, &'a [u8]), Stop>
         ensures { Gives (λ x. (x.0, x.1.now)) result (spec.print self.now.script bytes.now) }
     {
@@ -164,21 +186,21 @@ impl Draft {
     }
 
     /// The script with the item that stands at the front of the bytes, and what follows it.
-    #[tactic(auto, unfolding(crate::specs::Reading::item))]
+    #[tactic(auto, unfolding(crate::specs::Reading::and_then, crate::specs::Reading::item))]
     pub fn with_next(self, alloc: Global, bytes: &[u8]) -> Result<(Draft, &[u8]), Stop>
         ensures { Gives (λ x. (x.0.script, x.1.now)) result (spec.with_next self.script bytes.now) }
     {
         let (_, word, rest) = next(bytes)?;
-        if word == b"array" {
+        if word == b"array".as_slice() {
             let (array, rest) = self.array(alloc, rest)?;
             return Ok((self.with_array(alloc, array)?, rest));
         }
         if self.script.statements.len() >= STATEMENT_LIMIT {
             return Err(Stop::NotWhole);
         }
-        let (statement, rest) = if word == b"reduce" {
+        let (statement, rest) = if word == b"reduce".as_slice() {
             self.reduce(rest)?
-        } else if word == b"print" {
+        } else if word == b"print".as_slice() {
             self.print(rest)?
         } else {
             return Err(Stop::NotWhole);

@@ -47,7 +47,7 @@ pub fn next(bytes: &[u8]) -> Result<(TokenKind, &[u8], &[u8]), Stop>
     }
 }
 
-#[tactic(auto, unfolding(crate::specs::Reading::expect))]
+#[tactic(auto, unfolding(crate::specs::Reading::and_then, crate::specs::Reading::expect))]
 pub fn expect<'a>(text: &[u8], bytes: &'a [u8]) -> Result<&'a [u8], Stop>
     ensures { Gives (λ x. x.now) result (spec.expect text.now bytes.now) }
 {
@@ -59,7 +59,7 @@ pub fn expect<'a>(text: &[u8], bytes: &'a [u8]) -> Result<&'a [u8], Stop>
     }
 }
 
-#[tactic(auto, using(crate::proofs::Ascii::name_is_text), unfolding(crate::specs::Reading::name))]
+#[tactic(auto, using(crate::proofs::Ascii::name_is_text), unfolding(crate::specs::Reading::and_then, crate::specs::Reading::name))]
 pub fn name(bytes: &[u8]) -> Result<(&str, &[u8]), Stop>
     ensures { Gives (λ x. (x.0.now, x.1.now)) result (spec.name bytes.now) }
 {
@@ -72,7 +72,7 @@ pub fn name(bytes: &[u8]) -> Result<(&str, &[u8]), Stop>
     }
 }
 
-#[tactic(auto, unfolding(crate::specs::Reading::number))]
+#[tactic(auto, unfolding(crate::specs::Reading::and_then, crate::specs::Reading::number))]
 pub fn number(bytes: &[u8]) -> Result<(u64, &[u8]), Stop>
     ensures { Gives (λ x. (x.0, x.1.now)) result (spec.number bytes.now) }
 {
@@ -82,6 +82,7 @@ pub fn number(bytes: &[u8]) -> Result<(u64, &[u8]), Stop>
     }
 }
 
+#[tactic(auto, unfolding(crate::specs::Reading::and_then))]
 pub fn expect_all<'a>(mut texts: &[&[u8]], bytes: &'a [u8]) -> Result<&'a [u8], Stop>
     ensures { Gives (λ x. x.now) result (spec.expect_all (map (λ t. t.now) texts.entry.now) bytes.now) }
 {
