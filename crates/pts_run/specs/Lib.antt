@@ -1,3 +1,4 @@
 pub mod Output
+pub mod Ranges
 pub mod Run
 pub mod Text
