@@ -9,7 +9,8 @@ use Rattle.pts_run.specs.declared.run.WriteEnd.{WriteEnd}
 use Rattle.pts_run.specs.declared.run.WriteEnd.TheVariants as ends
 use Rattle.pts_run.specs.declared.status.Status.{Status}
 use Rattle.pts_run.specs.declared.status.Status.TheVariants as status
-use Rattle.pts_run.specs.Output.{IsStatusOf, Accepts, Refuses, IsAsScriptSays, Wrote, WrotePart, WritesRun, WritesRunPart, script_limit}
+use Rattle.pts_run.specs.Output.{Accepts, Refuses, IsAsScriptSays, Wrote, WrotePart, script_limit}
+use Rattle.pts_run.specs.Writing.{IsStatusOf, WritesRun, WritesRunPart}
 use Rattle.pts_run.specs.Text.{refusal_line}
 
 -- ---- known bytes

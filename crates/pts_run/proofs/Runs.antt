@@ -9,7 +9,8 @@ use Rattle.pts_syntax.specs.declared.first.First.{First}
 use Rattle.pts_syntax.specs.declared.first.FirstArray.{FirstArray}
 use Rattle.pts_syntax.specs.declared.first.FirstStatement.{FirstStatement}
 use Rattle.pts_syntax.specs.declared.first.FirstStatement.TheVariants as statements
-use Rattle.pts_run.specs.Output.{IsRunText, WritesRun, WritesRunPart}
+use Rattle.pts_run.specs.Output.{IsRunText}
+use Rattle.pts_run.specs.Writing.{WritesRun, WritesRunPart}
 use Rattle.pts_run.specs.Run.{Answer, Reduced, Printed, Store, start_store, cells_in, sum_of, Performs, PerformsAll}
 use Rattle.pts_run.specs.Text.{line_of, text_of}
 use Rattle.pts_run.proofs.Texts.{lines_from-push}

@@ -7,6 +7,8 @@ mod run;
 mod script;
 mod status;
 mod sums;
+#[cfg(test)]
+mod tests;
 mod top;
 mod words;
 

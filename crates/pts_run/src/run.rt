@@ -6,7 +6,7 @@ ghost use Rattle.std.specs.Io.KnownBytes.{Appends};
 ghost use Rattle.pts_io.specs.Streams.{HasRisen};
 ghost use Rattle.pts_syntax.specs.First.{name_at, cells_at};
 ghost use Rattle.pts_run.specs.declared.run.WriteEnd.TheVariants.{Fault, NoMemory};
-ghost use Rattle.pts_run.specs.Output.{WritesRun, WritesRunPart};
+ghost use Rattle.pts_run.specs.Writing.{WritesRun, WritesRunPart};
 ghost use Rattle.pts_run.specs.Ranges.{IsInRange};
 ghost use Rattle.pts_run.specs.Run.{Answer, Performs, start_store};
 ghost use Rattle.pts_run.specs.Text.{line_of, refusal_line};

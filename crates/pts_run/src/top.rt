@@ -3,7 +3,8 @@
 ghost use Rattle.std.specs.Prelude.{◌≡◌, ◌≢◌, ℕ, ◌<◌, ◌≤◌, ◌↔◌, List, length, map, Some, string_bytes};
 ghost use Rattle.std.specs.Io.KnownBytes.{IsAtEnd};
 ghost use Rattle.pts_io.specs.Streams.{HasRisen};
-ghost use Rattle.pts_run.specs.Output.{IsRun, IsAsScriptSays, IsStatusOf, Wrote, WrotePart, script_limit};
+ghost use Rattle.pts_run.specs.Output.{IsRun, IsAsScriptSays, Wrote, WrotePart, script_limit};
+ghost use Rattle.pts_run.specs.Writing.{IsStatusOf};
 
 use crate::run::{WriteEnd, run_script, write_refusal};
 use crate::script::{ScriptFault, read_script};

@@ -1,5 +1,5 @@
 use Rattle.std.proofs.Common.{◌≤◌}
-use Rattle.pts_run.specs.Output.{WritesRun}
+use Rattle.pts_run.specs.Writing.{WritesRun}
 use Rattle.pts_run.proofs.run.run_script.Given as goal
 
 abbrev pub invariant-loop-place : goal.invariant-loop-place
