@@ -5,8 +5,10 @@ use Rattle.pts_syntax.specs.First.{IsScript, IsLater}
 use Rattle.pts_syntax.specs.declared.first.First.{First}
 use Rattle.pts_run.specs.declared.status.Status.{Status}
 use Rattle.pts_run.specs.declared.status.Status.TheVariants as status
-use Rattle.pts_run.specs.Run.{Run, PermittedRun, Done}
-use Rattle.pts_run.specs.Text.{Refusal, TooLong, Later, refusal_line, text_of}
+use Rattle.pts_run.specs.declared.refusal.Refusal.{Refusal}
+use Rattle.pts_run.specs.declared.refusal.Refusal.TheVariants.{TooLong, Later}
+use Rattle.pts_run.specs.Run.{Run, PermittedRun}
+use Rattle.pts_run.specs.Text.{refusal_line, text_of}
 
 -- the most bytes of a script
 abbrev pub script_limit : ℕ
@@ -27,15 +29,14 @@ Refuses bytes TooLong = script_limit < length bytes
 Refuses bytes (Later item) = (length bytes ≤ script_limit) × IsLater bytes item
 
 -- the text of a permitted run of the script's first `count` statements
-pub record IsRunText (bytes : List ℕ) (script : First) (count : ℕ) (text : List ℕ) : Type 0 where
-  pub accepts : Accepts bytes script
+pub record IsRunText (script : First) (count : ℕ) (text : List ℕ) : Type 0 where
   pub run : Run
   pub permitted : PermittedRun script count run
   pub text_is : text ≡ text_of run.answers
 
 -- the whole text that goes with an answer, for these source bytes
 abbrev pub IsOutput : List ℕ → Status → List ℕ → Type 0
-IsOutput bytes status.Done text = (script : First) × IsRunText bytes script (length script.statements) text
+IsOutput bytes status.Done text = (script : First) × Accepts bytes script × IsRunText script (length script.statements) text
 IsOutput bytes status.Refused text = (reason : Refusal) × Refuses bytes reason × (text ≡ refusal_line reason)
 IsOutput bytes status.Usage text = text ≡ []
 IsOutput bytes status.ReadFault text = text ≡ []
@@ -46,7 +47,7 @@ IsOutput bytes status.NoMemory text = ⊥
 abbrev pub IsPartialOutput : List ℕ → List ℕ → Type 0
 IsPartialOutput bytes text =
     (text ≡ [])
-    ⊎ ((script : First) × (count : ℕ) × (whole : List ℕ) × IsRunText bytes script count whole × StartsWith whole text)
+    ⊎ ((script : First) × (count : ℕ) × (whole : List ℕ) × Accepts bytes script × IsRunText script count whole × StartsWith whole text)
     ⊎ ((reason : Refusal) × Refuses bytes reason × StartsWith (refusal_line reason) text)
 
 -- a sink that held `held` holds the whole text of this answer behind it

@@ -1,6 +1,8 @@
 -- The printed texts: the line of each answer, and the line of a refusal.
 use Rattle.std.specs.Prelude.{ℕ, ◌+◌, List, [], ◌∷◌, ◌++◌, codes, decimal}
 use Rattle.std.specs.List.{flat_map}
+use Rattle.pts_run.specs.declared.refusal.Refusal.{Refusal}
+use Rattle.pts_run.specs.declared.refusal.Refusal.TheVariants.{TooLong, Later}
 use Rattle.pts_run.specs.Run.{Answer, Reduced, Printed}
 
 abbrev pub line_feed : List ℕ
@@ -22,11 +24,6 @@ lines_from number (a ∷ rest) = line_of number a ++ lines_from (number + 1) res
 
 abbrev pub text_of : List Answer → List ℕ
 text_of answers = lines_from 1 answers
-
--- why a script is refused
-pub data Refusal : Type 0 where
-  TooLong : Refusal
-  Later : ℕ → Refusal
 
 abbrev pub refusal_line : Refusal → List ℕ
 refusal_line TooLong = codes "refused too_long" ++ line_feed

@@ -3,9 +3,13 @@
 ghost use Rattle.std.specs.Prelude.{◌≡◌, ◌≢◌, ℕ, ◌<◌, ◌≤◌, ◌↔◌, List, length, map, Some, string_bytes};
 ghost use Rattle.std.specs.Io.KnownBytes.{IsAtEnd};
 ghost use Rattle.pts_io.specs.Streams.{HasRisen};
-ghost use Rattle.pts_run.specs.Output.{IsRun, IsOutput, IsAsScriptSays, Wrote, WrotePart, script_limit};
+ghost use Rattle.pts_run.specs.Output.{IsRun, IsAsScriptSays, Wrote, WrotePart, script_limit};
+ghost use Rattle.pts_run.specs.Writing.{IsStatusOf};
 
+use crate::run::{WriteEnd, run_script, write_refusal};
+use crate::script::{ScriptFault, read_script};
 use crate::status::Status;
+use crate::words::is_run;
 use pts_io::{Sink, Source};
 use std::alloc::Global;
 
@@ -50,6 +54,26 @@ pub fn run_words<S: Source, K: Sink>(
         → IsAsScriptSays bytes result }
     ensures counts { (S.Source.faults source.old ≤ S.Source.faults source.new) × (K.Sink.faults sink.old ≤ K.Sink.faults sink.new) }
 {
-    let is_run = words.len() == 1;
-    if is_run { Status::NoMemory } else { Status::Usage }
+    if !is_run(words) {
+        return Status::Usage;
+    }
+    match read_script(alloc, source) {
+        Ok(script) => status_of(Status::Done, run_script(alloc, &script, sink)),
+        Err(ScriptFault::Refused(refusal)) => {
+            status_of(Status::Refused, write_refusal(alloc, refusal, sink))
+        }
+        Err(ScriptFault::Source) => Status::ReadFault,
+        Err(ScriptFault::NoMemory) => Status::NoMemory,
+    }
+}
+
+// The status of a call that was to end as `whole` with all written.
+fn status_of(whole: Status, written: Result<(), WriteEnd>) -> Status
+    ensures { IsStatusOf whole written result }
+{
+    match written {
+        Ok(()) => whole,
+        Err(WriteEnd::Fault) => Status::WriteFault,
+        Err(WriteEnd::NoMemory) => Status::NoMemory,
+    }
 }

@@ -1,0 +1,4 @@
+pub mod Endings
+pub mod Ranges
+pub mod Runs
+pub mod Texts
