@@ -144,3 +144,25 @@ no_header bytes none =
     record { none = λ script spells. never spells.0 script spells.1 spells.2; place = never }
 
 pub ruleset parsing = (begins_front, front_goes_on, front_is_script, stops_later, no_header, with_next_shorter)
+
+-- ---- one script for each text
+
+same_end : (one other : First) (rest end : List ℕ) (items others : List Item) → Compares one rest items other end others → HasPlaces one.arrays → HasPlaces other.arrays → IsBlank rest → IsBlank end → one ≡ other
+same_end one other rest end items others (on more goes len) places places2 blank blank2 = by_more more goes
+  where
+    by_more : (more : List Item) → GoesOn one rest more other end → one ≡ other
+    by_more [] (same, at) = sym same
+    by_more (i ∷ more) goes_on_by =
+        let nothing = no_more_items one rest (i ∷ more) other end places (blank_has_no_item one rest blank) goes_on_by in
+        let e : i ∷ more ≡ [] = nothing.0 in
+        absurd (cc)
+same_end one other rest end items others (back i more goes len) places places2 blank blank2 =
+    let nothing = no_more_items other end (i ∷ more) one rest places2 (blank_has_no_item other end blank2) goes in
+    let e : i ∷ more ≡ [] = nothing.0 in
+    absurd (cc)
+
+pub no_text_has_two : (bytes : List ℕ) (one other : First) → IsScript bytes one → IsScript bytes other → one ≡ other
+no_text_has_two bytes one other spells spells2 =
+    let f : IsFront bytes one spells.1 = record { items = spells.0; front = spells.2 } in
+    let c = fronts_compare bytes one spells.1 f spells2.0 other spells2.1 spells2.2 in
+    same_end one other spells.1 spells2.1 spells.0 spells2.0 c.0 c.1 c.2 spells.3 spells2.3

@@ -296,3 +296,37 @@ pub fn first_token(bytes: &[u8]) -> Result<Option<Token>, LexFault>
 {
     scan(bytes)
 }
+
+#[cfg(test)]
+mod tests {
+    use super::*;
+
+    #[test]
+    fn takes_the_longest_token(rt: HostRuntime) {
+        let table: [(&[u8], Result<Option<(TokenKind, usize, usize)>, LexFault>); 16] = [
+            (b"", Ok(None)),
+            (b" \t\r\n# to the end", Ok(None)),
+            (b"# one\n two", Ok(Some((TokenKind::Name, 7, 10)))),
+            (b"par_unseq", Ok(Some((TokenKind::Word, 0, 9)))),
+            (b"par_unseqs", Ok(Some((TokenKind::Name, 0, 10)))),
+            (b"_a1-", Ok(Some((TokenKind::Name, 0, 3)))),
+            (b"12ab", Ok(Some((TokenKind::Number(12), 0, 2)))),
+            (
+                b"0018446744073709551615",
+                Ok(Some((TokenKind::Number(18_446_744_073_709_551_615), 0, 22))),
+            ),
+            (b" 18446744073709551616", Err(LexFault::Number(1))),
+            (b"->", Ok(Some((TokenKind::Symbol, 0, 2)))),
+            (b"- >", Ok(Some((TokenKind::Symbol, 0, 1)))),
+            (b"..1", Ok(Some((TokenKind::Symbol, 0, 2)))),
+            (b".", Err(LexFault::Byte(0))),
+            (b" ~", Err(LexFault::Byte(1))),
+            (b"&&&", Ok(Some((TokenKind::Symbol, 0, 2)))),
+            (b"\xff", Err(LexFault::Byte(0))),
+        ];
+        for (text, wanted) in table {
+            let found = first_token(text).map(|token| token.map(|t| (t.kind, t.start, t.end)));
+            assert_eq!(rt; found, wanted);
+        }
+    }
+}
