@@ -5,14 +5,14 @@ use Rattle.std.specs.List.{list_all, slice_range}
 use Rattle.std.specs.Str.{IsAscii, IsUtf8}
 use Rattle.std.proofs.lemmas.Bool.{eqb-true, leb-true, and_parts, or_cases}
 use Rattle.std.proofs.lemmas.Str.{IsUtf8-from_ascii}
-use Rattle.pts_syntax.specs.declared.token.LexFault.{LexFault}
-use Rattle.pts_syntax.specs.declared.token.Token.{Token}
-use Rattle.pts_syntax.specs.declared.token.TokenKind.{TokenKind}
-use Rattle.pts_syntax.specs.declared.token.TokenKind.TheVariants as kinds
-use Rattle.pts_syntax.specs.Lexical.{is_letter, is_digit, is_letter_or_digit, IsIdentifier, IsSpelling}
-use Rattle.pts_syntax.specs.Scanning.{scan}
+use Rattle.pts_lex.specs.declared.token.LexFault.{LexFault}
+use Rattle.pts_lex.specs.declared.token.Token.{Token}
+use Rattle.pts_lex.specs.declared.token.TokenKind.{TokenKind}
+use Rattle.pts_lex.specs.declared.token.TokenKind.TheVariants as kinds
+use Rattle.pts_lex.specs.Lexical.{is_letter, is_digit, is_letter_or_digit, IsIdentifier, IsSpelling}
+use Rattle.pts_lex.specs.Scanning.{scan}
 use Rattle.pts_syntax.specs.Reading.{Lexeme, lexeme_of, next}
-use Rattle.pts_syntax.proofs.Scans.{Tells, scan_tells}
+use Rattle.pts_lex.proofs.Scans.{Tells, scan_tells}
 
 letter_below : (b : ℕ) → is_letter b ≡ true → b < 128
 letter_below b h =

@@ -6,10 +6,10 @@ use Rattle.std.proofs.lemmas.Slice.Eq.{bytes_eq-Decides}
 use Rattle.pts_syntax.specs.declared.first.First.{First}
 use Rattle.pts_syntax.specs.declared.first.FirstArray.{FirstArray}
 use Rattle.pts_syntax.specs.declared.first.FirstStatement.TheVariants.{Reduce, Print}
-use Rattle.pts_syntax.specs.Lexical.{Cuts}
+use Rattle.pts_lex.specs.Lexical.{Cuts}
 use Rattle.pts_syntax.specs.First.{Sign, Begins, Item, Declares, Does, name_at, tokens_of, IsWhole, with_item, GoesOn}
 use Rattle.pts_syntax.specs.Reading.{item, with_next, place_of}
-use Rattle.pts_syntax.proofs.Lexemes.{no_empty_lexeme}
+use Rattle.pts_lex.proofs.Lexemes.{no_empty_lexeme}
 use Rattle.pts_syntax.proofs.Places.{place_of-push}
 use Rattle.pts_syntax.proofs.Steps.{given, some_pair}
 use Rattle.pts_syntax.proofs.WholeItems.{HasPlaces, item_read, whole_read, new_has_no_place}

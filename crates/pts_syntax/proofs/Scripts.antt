@@ -3,11 +3,11 @@ use Rattle.std.proofs.Common.{◌≡◌, ℕ, suc, ◌+◌, ◌≤◌, eqb, List
 use Rattle.std.specs.Prelude.{codes}
 use Rattle.std.proofs.lemmas.Bool.{eqb-true}
 use Rattle.pts_syntax.specs.declared.first.First.{First}
-use Rattle.pts_syntax.specs.Lexical.{IsBlank}
+use Rattle.pts_lex.specs.Lexical.{IsBlank}
 use Rattle.pts_syntax.specs.First as first
 use Rattle.pts_syntax.specs.First.{Sign, Quoted, Number, Begins, Item, Declares, Does, with_item, no_items, GoesOn, HasFront, IsScript, IsLater, tokens_of}
 use Rattle.pts_syntax.specs.Reading.{and_then, next, item, expect, number, with_next, header}
-use Rattle.pts_syntax.proofs.Scans.{scan_blank}
+use Rattle.pts_lex.proofs.Scans.{scan_blank}
 use Rattle.pts_syntax.proofs.Steps.{given, some_pair, quoted_first, number_first, nothing_more, then_expect, then_number}
 use Rattle.pts_syntax.proofs.WholeItems.{HasPlaces, when_some, item_read, whole_read}
 use Rattle.pts_syntax.proofs.Fronts.{Compares, on, back, compare, goes_on_more, no_places, places_after, with_next_shorter}

@@ -5,16 +5,16 @@ use Rattle.std.specs.Prelude.{codes, take, drop}
 use Rattle.std.specs.Str.{bytes_eq}
 use Rattle.std.proofs.lemmas.Bool.{cases_Bool}
 use Rattle.std.proofs.lemmas.Slice.Eq.{bytes_eq-Decides}
-use Rattle.pts_syntax.specs.declared.token.LexFault.{LexFault}
-use Rattle.pts_syntax.specs.declared.token.Token.{Token}
-use Rattle.pts_syntax.specs.declared.token.TokenKind.{TokenKind}
-use Rattle.pts_syntax.specs.declared.token.TokenKind.TheVariants as kinds
-use Rattle.pts_syntax.specs.Lexical.{is_letter, is_digit, is_among, words, IsSpelling, Cuts}
-use Rattle.pts_syntax.specs.Scanning.{scan, kind_of}
+use Rattle.pts_lex.specs.declared.token.LexFault.{LexFault}
+use Rattle.pts_lex.specs.declared.token.Token.{Token}
+use Rattle.pts_lex.specs.declared.token.TokenKind.{TokenKind}
+use Rattle.pts_lex.specs.declared.token.TokenKind.TheVariants as kinds
+use Rattle.pts_lex.specs.Lexical.{is_letter, is_digit, is_among, words, IsSpelling, Cuts}
+use Rattle.pts_lex.specs.Scanning.{scan, kind_of}
 use Rattle.pts_syntax.specs.First.{Sign, Quoted, Name, Number, Begins, listed}
 use Rattle.pts_syntax.specs.Reading.{and_then, Lexeme, lexeme_of, next, expect, expect_all, name_by, name, number_by, number, more_cells, cells}
-use Rattle.pts_syntax.proofs.Scans.{Tells, scan_tells, scan_cut, lies}
-use Rattle.pts_syntax.proofs.Spellings.{spelled_kind}
+use Rattle.pts_lex.proofs.Scans.{Tells, scan_tells, scan_cut, lies}
+use Rattle.pts_lex.proofs.Spellings.{spelled_kind}
 
 -- the value of a step that gave one
 pub by_some : {A B : Type 0} {f : A → Option B} {y : B} (o : Option A) → and_then o f ≡ Some y → (x : A) × (o ≡ Some x) × (f x ≡ Some y)

@@ -11,7 +11,7 @@ use Rattle.pts_syntax.specs.declared.first.First.{First}
 use Rattle.pts_syntax.specs.declared.first.FirstArray.{FirstArray}
 use Rattle.pts_syntax.specs.declared.first.FirstStatement.{FirstStatement}
 use Rattle.pts_syntax.specs.declared.first.FirstStatement.TheVariants.{Reduce, Print}
-use Rattle.pts_syntax.specs.declared.token.TokenKind.{TokenKind}
+use Rattle.pts_lex.specs.declared.token.TokenKind.{TokenKind}
 use Rattle.pts_syntax.specs.First.{Sign, Quoted, Name, Number, Begins, listed, Item, Declares, Does, name_at, cells_at, tokens_of, IsWhole, cell_limit, statement_limit}
 use Rattle.pts_syntax.specs.Reading.{and_then, Lexeme, next, expect, expect_all, name, number, cells, place_of, cell_count, when, array, reduce, print, declared, done, item}
 use Rattle.pts_syntax.proofs.Places.{new_parts}

@@ -1,13 +1,13 @@
 -- The first scripts: which texts spell one, and how many whole items stand at the front of a text.
 use Rattle.std.specs.Prelude.{◌≡◌, ◌≢◌, ℕ, zero, suc, ◌+◌, ◌<◌, ◌≤◌, List, [], ◌∷◌, ◌++◌, length, sum_by, codes, All}
-use Rattle.pts_syntax.specs.declared.token.TokenKind.TheVariants as kinds
+use Rattle.pts_lex.specs.declared.token.TokenKind.TheVariants as kinds
 use Rattle.pts_syntax.specs.declared.first.First.{First}
 use Rattle.pts_syntax.specs.declared.first.FirstArray.{FirstArray}
 use Rattle.pts_syntax.specs.declared.first.FirstStatement.{FirstStatement}
 use Rattle.pts_syntax.specs.declared.first.FirstStatement.TheVariants.{Reduce, Print}
 use Rattle.pts_syntax.specs.declared.first.FirstFault.{FirstFault}
 use Rattle.pts_syntax.specs.declared.first.FirstFault.TheVariants.{Later, NoMemory}
-use Rattle.pts_syntax.specs.Lexical.{IsSpelling, IsBlank, Cuts}
+use Rattle.pts_lex.specs.Lexical.{IsSpelling, IsBlank, Cuts}
 
 -- the most cells of all arrays together
 abbrev pub cell_limit : ℕ

@@ -1,4 +1,2 @@
 pub mod First
-pub mod Lexical
 pub mod Reading
-pub mod Scanning

@@ -8,12 +8,12 @@ use Rattle.pts_syntax.specs.declared.first.FirstStatement.{FirstStatement}
 use Rattle.pts_syntax.specs.declared.first.FirstStatement.TheVariants.{Reduce, Print}
 use Rattle.pts_syntax.specs.declared.reader.Stop.{Stop}
 use Rattle.pts_syntax.specs.declared.reader.Stop.TheVariants as stops
-use Rattle.pts_syntax.specs.declared.token.LexFault.{LexFault}
-use Rattle.pts_syntax.specs.declared.token.Token.{Token}
-use Rattle.pts_syntax.specs.declared.token.TokenKind.{TokenKind}
-use Rattle.pts_syntax.specs.declared.token.TokenKind.TheVariants as kinds
+use Rattle.pts_lex.specs.declared.token.LexFault.{LexFault}
+use Rattle.pts_lex.specs.declared.token.Token.{Token}
+use Rattle.pts_lex.specs.declared.token.TokenKind.{TokenKind}
+use Rattle.pts_lex.specs.declared.token.TokenKind.TheVariants as kinds
 use Rattle.pts_syntax.specs.First.{Item, Declares, Does, cells_at, cell_limit, statement_limit, with_item}
-use Rattle.pts_syntax.specs.Scanning.{scan}
+use Rattle.pts_lex.specs.Scanning.{scan}
 
 unfoldable pub and_then : {A B : Type 0} → Option A → (A → Option B) → Option B
 and_then None f = None

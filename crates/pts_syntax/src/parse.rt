@@ -2,14 +2,14 @@
 
 ghost use Rattle.std.specs.Prelude.{◌≡◌, ◌↔◌, ℕ, List, IfOk, IfErr, IsTrue};
 ghost use Rattle.pts_syntax.specs.First.{IsScript, IsFault};
-ghost use Rattle.pts_syntax.specs.Lexical.{IsBlank};
+ghost use Rattle.pts_lex.specs.Lexical.{IsBlank};
 ghost use Rattle.pts_syntax.specs.Reading as spec;
 ghost use Rattle.pts_syntax.specs.Reading.{Gives};
 
 use crate::first::{First, FirstFault};
 use crate::items::Draft;
 use crate::reader::{Stop, expect, number};
-use crate::token::first_token;
+use pts_lex::first_token;
 use std::alloc::Global;
 
 fn is_blank(bytes: &[u8]) -> bool

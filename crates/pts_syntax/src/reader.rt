@@ -5,7 +5,7 @@ ghost use Rattle.pts_syntax.specs.Reading as spec;
 ghost use Rattle.pts_syntax.specs.Reading.{Gives};
 ghost use Rattle.pts_syntax.specs.declared.reader.Stop.TheVariants.{NoMemory};
 
-use crate::token::{TokenKind, scan};
+use pts_lex::{TokenKind, scan};
 use sqlite_items::Items;
 use std::alloc::{AllocError, AllocFailed, Global};
 

@@ -2,11 +2,11 @@
 use Rattle.std.specs.Prelude.{◌≡◌, ◌≢◌, ◌⊎◌, ℕ, ◌+◌, ◌-◌, ◌*◌, ◌<◌, ◌≤◌, ◌^◌, Bool, true, false, ◌&&◌, ◌||◌, ◌==◌, nat_le, List, [], ◌∷◌, ◌++◌, length, take, drop, slice_index, slice_range, fold, codes}
 use Rattle.std.specs.List.{list_any, list_all}
 use Rattle.std.specs.Str.{bytes_eq}
-use Rattle.pts_syntax.specs.declared.token.LexFault.{LexFault}
-use Rattle.pts_syntax.specs.declared.token.LexFault.TheVariants as faults
-use Rattle.pts_syntax.specs.declared.token.Token.{Token}
-use Rattle.pts_syntax.specs.declared.token.TokenKind.{TokenKind}
-use Rattle.pts_syntax.specs.declared.token.TokenKind.TheVariants.{Word, Name, Number, Symbol}
+use Rattle.pts_lex.specs.declared.token.LexFault.{LexFault}
+use Rattle.pts_lex.specs.declared.token.LexFault.TheVariants as faults
+use Rattle.pts_lex.specs.declared.token.Token.{Token}
+use Rattle.pts_lex.specs.declared.token.TokenKind.{TokenKind}
+use Rattle.pts_lex.specs.declared.token.TokenKind.TheVariants.{Word, Name, Number, Symbol}
 
 -- ---- bytes
 
@@ -138,3 +138,45 @@ pub record IsGreatNumber (bytes : List ℕ) (at : ℕ) : Type 0 where
 abbrev pub IsLexFault : List ℕ → LexFault → Type 0
 IsLexFault bytes (faults.Byte at) = IsStrayByte bytes at
 IsLexFault bytes (faults.Number at) = IsGreatNumber bytes at
+IsLexFault bytes faults.NoMemory = ⊥
+
+-- ---- all tokens of a text
+
+-- tokens lead from the bytes, of which the first stands at `at`, to the rest, of which the first stands at `end`
+abbrev pub LeadTo : ℕ → List ℕ → List Token → ℕ → List ℕ → Type 0
+LeadTo at bytes [] end rest = (end ≡ at) × (rest ≡ bytes)
+LeadTo at bytes (t ∷ ts) end rest =
+    (gap : List ℕ) × (text : List ℕ) × (after : List ℕ) × Cuts bytes gap text after × IsSpelling t.kind text × (t.start ≡ at + length gap) × (t.end ≡ t.start + length text)
+    × LeadTo t.end after ts end rest
+
+-- the bytes are the texts of these tokens in order, each as long as possible, with only white space and comments between
+abbrev pub Lexes : List ℕ → List Token → Type 0
+Lexes bytes tokens = (end : ℕ) × (rest : List ℕ) × LeadTo 0 bytes tokens end rest × IsBlank rest
+
+-- a fault of a text that begins at `at`
+abbrev pub moved_fault : ℕ → LexFault → LexFault
+moved_fault at (faults.Byte place) = faults.Byte (at + place)
+moved_fault at (faults.Number place) = faults.Number (at + place)
+moved_fault at faults.NoMemory = faults.NoMemory
+
+-- tokens lead up to this fault, so no fault stands at a lesser place
+pub record IsFirstFault (bytes : List ℕ) (fault : LexFault) : Type 0 where
+  pub tokens : List Token
+  pub end : ℕ
+  pub rest : List ℕ
+  pub leads : LeadTo 0 bytes tokens end rest
+  pub inner : LexFault
+  pub is_fault : IsLexFault rest inner
+  pub fault_is : fault ≡ moved_fault end inner
+
+-- the same as an answer; of want of memory nothing is said
+abbrev pub Explains : List ℕ → LexFault → Type 0
+Explains bytes (faults.Byte at) = IsFirstFault bytes (faults.Byte at)
+Explains bytes (faults.Number at) = IsFirstFault bytes (faults.Number at)
+Explains bytes faults.NoMemory = Unit {0}
+
+-- the place of a fault within a text that begins at `at` is a place of the whole
+abbrev pub FitsBehind : ℕ → LexFault → Type 0
+FitsBehind at (faults.Byte place) = at + place < 2 ^ 64
+FitsBehind at (faults.Number place) = at + place < 2 ^ 64
+FitsBehind at faults.NoMemory = Unit {0}

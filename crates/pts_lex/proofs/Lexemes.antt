@@ -5,9 +5,9 @@ use Rattle.std.specs.List.{list_any, list_all, prefix_len}
 use Rattle.std.specs.Str.{bytes_eq}
 use Rattle.std.proofs.lemmas.Bool.{eqb-true, ne_eqb, leb-true, lt-leb, cases_Bool, and_parts, and_from, and_left, or_cases, or_from, not-true, both_ways, false≢true}
 use Rattle.std.proofs.lemmas.Slice.Eq.{bytes_eq-Decides}
-use Rattle.pts_syntax.specs.Lexical.{hash, is_white, is_letter, is_digit, is_letter_or_digit, is_among, singles, doubles, IsIdentifier, IsNumeral, IsSymbol, IsLexeme}
-use Rattle.pts_syntax.specs.Scanning.{is_single, is_double, symbol_len, lexeme_len}
-use Rattle.pts_syntax.proofs.Gaps.{IsSolid}
+use Rattle.pts_lex.specs.Lexical.{hash, is_white, is_letter, is_digit, is_letter_or_digit, is_among, singles, doubles, IsIdentifier, IsNumeral, IsSymbol, IsLexeme}
+use Rattle.pts_lex.specs.Scanning.{is_single, is_double, symbol_len, lexeme_len}
+use Rattle.pts_lex.proofs.Gaps.{IsSolid}
 
 -- ---- how the bytes stand apart
 

@@ -1,10 +1,13 @@
 //! The first token of a text.
 
-ghost use Rattle.std.specs.Prelude.{◌≡◌, ◌+◌, ◌-◌, ◌*◌, ◌^◌, ◌<◌, ◌≤◌, ◌↔◌, length, map, false, IfErr, IfOk, IfSome};
+ghost use Rattle.std.specs.Prelude.{◌≡◌, ◌+◌, ◌-◌, ◌*◌, ◌^◌, ◌<◌, ◌≤◌, ◌↔◌, length, map, false, ℕ, List, IfErr, IfOk, IfSome};
 ghost use Rattle.std.specs.List.{prefix_len};
 ghost use Rattle.std.specs.Option.{SomeIff};
-ghost use Rattle.pts_syntax.specs.Lexical as lexical;
-ghost use Rattle.pts_syntax.specs.Scanning as spec;
+ghost use Rattle.pts_lex.specs.Lexical as lexical;
+ghost use Rattle.pts_lex.specs.Scanning as spec;
+
+use std::alloc::{AllocFailed, Global};
+use thiserror::Error;
 
 /// What a token is. A number has its value.
 #[derive(Clone, Copy, Debug, PartialEq, Eq)]
@@ -23,11 +26,28 @@ pub struct Token {
     pub end: usize,
 }
 
-/// The place at which no token begins, or the place of a number above 18446744073709551615.
-#[derive(Clone, Copy, Debug, PartialEq, Eq)]
+/// Why a text has no tokens.
+#[derive(Clone, Copy, Debug, PartialEq, Eq, Error)]
 pub enum LexFault {
+    /// The place of a byte that begins no token.
+    #[error("no token begins at byte {0}")]
     Byte(usize),
+    /// The place of a number above 18446744073709551615.
+    #[error("the number at byte {0} is above 18446744073709551615")]
     Number(usize),
+    #[error("there is no memory")]
+    NoMemory,
+}
+
+impl From<AllocFailed<Token>> for LexFault {
+    ghost use Rattle.std.specs.Prelude.{◌≡◌};
+    ghost use Rattle.pts_lex.specs.declared.token.LexFault.TheVariants as faults;
+
+    ghost from_gives = { λ _ fault. fault ≡ faults.NoMemory };
+
+    fn from(_: AllocFailed<Token>) -> Self {
+        LexFault::NoMemory
+    }
 }
 
 /// The names that are words of the language.
@@ -297,9 +317,50 @@ pub fn first_token(bytes: &[u8]) -> Result<Option<Token>, LexFault>
     scan(bytes)
 }
 
+// A fault of a text that begins at this place.
+fn moved_fault(at: usize, fault: LexFault) -> LexFault
+    requires { lexical.FitsBehind at fault }
+    ensures { result ≡ lexical.moved_fault at fault }
+{
+    match fault {
+        LexFault::Byte(place) => LexFault::Byte(at + place),
+        LexFault::Number(place) => LexFault::Number(at + place),
+        LexFault::NoMemory => LexFault::NoMemory,
+    }
+}
+
+/// The tokens of a text, each as long as possible. `Byte` and `Number` come exactly where one of these faults stands in the
+/// text, with the least place of one. Places are counted in bytes from 0.
+#[tactic(auto, using(crate::proofs::TokenLists::reading))]
+pub fn tokens(alloc: Global, bytes: &[u8]) -> Result<Vec<Token>, LexFault>
+    ensures tokens { IfOk result (λ found. lexical.Lexes bytes.now found.items) }
+    ensures fault { IfErr result (lexical.Explains bytes.now) }
+{
+    let mut found = Vec::new(alloc);
+    let mut at = 0;
+    loop {
+        match first_token(&bytes[at..]) {
+            Ok(Some(token)) => {
+                let (start, end) = (at + token.start, at + token.end);
+                let kind = token.kind;
+                found.push(Token { kind, start, end })?;
+                at = end;
+            }
+            Ok(None) => return Ok(found),
+            Err(fault) => return Err(moved_fault(at, fault)),
+        }
+    }
+}
+
+/// A law: a text has at most one list of tokens.
+pub fn one_token_list()
+    ensures { (bytes : List ℕ) (some others : List Token) → lexical.Lexes bytes some → lexical.Lexes bytes others → some ≡ others }
+{}
+
 #[cfg(test)]
 mod tests {
     use super::*;
+    use std::test::Fail;
 
     #[test]
     fn takes_the_longest_token(rt: HostRuntime) {
@@ -328,5 +389,37 @@ mod tests {
             let found = first_token(text).map(|token| token.map(|t| (t.kind, t.start, t.end)));
             assert_eq!(rt; found, wanted);
         }
+    }
+
+    #[test]
+    fn takes_all_tokens_or_the_first_fault(rt: HostRuntime) -> Result<(), Fail> {
+        let word = |start, end| Token {
+            kind: TokenKind::Word,
+            start,
+            end,
+        };
+        let semicolon = Token {
+            kind: TokenKind::Symbol,
+            start: 5,
+            end: 6,
+        };
+        let one = Token {
+            kind: TokenKind::Number(1),
+            start: 4,
+            end: 5,
+        };
+        let found = tokens(rt.alloc(), b"pts 1;# end")?;
+        assert_eq!(rt; found.as_slice(), [word(0, 3), one, semicolon].as_slice());
+        assert!(rt; tokens(rt.alloc(), b" # nothing")?.is_empty());
+        let table: [(&[u8], LexFault); 4] = [
+            (b"pts 1; ) @", LexFault::Byte(9)),
+            (b"a . b ~", LexFault::Byte(2)),
+            (b"1 18446744073709551616 @", LexFault::Number(2)),
+            (b"\n@ 18446744073709551616", LexFault::Byte(1)),
+        ];
+        for (text, fault) in table {
+            assert_eq!(rt; tokens(rt.alloc(), text).err(), Some(fault));
+        }
+        Ok(())
     }
 }

@@ -2,11 +2,11 @@
 use Rattle.std.proofs.Common.{◌≡◌, ℕ, ◌^◌, true, cond, ltb, List, [], ◌∷◌, Some, None, Option, refl, sym, ap, subst, ◌∙◌, inl, inr}
 use Rattle.std.proofs.lemmas.Bool.{cases_Bool, ltb-true, ltb-false, lt-ltb}
 use Rattle.std.proofs.Common.{◌≤◌}
-use Rattle.pts_syntax.specs.declared.token.TokenKind.{TokenKind}
-use Rattle.pts_syntax.specs.declared.token.TokenKind.TheVariants as kinds
-use Rattle.pts_syntax.specs.Lexical.{is_among, words, number_of, IsIdentifier, IsNumeral, IsSymbol, IsLexeme, IsSpelling}
-use Rattle.pts_syntax.specs.Scanning.{kind_of}
-use Rattle.pts_syntax.proofs.Lexemes.{digit_not_letter, symbol_sign}
+use Rattle.pts_lex.specs.declared.token.TokenKind.{TokenKind}
+use Rattle.pts_lex.specs.declared.token.TokenKind.TheVariants as kinds
+use Rattle.pts_lex.specs.Lexical.{is_among, words, number_of, IsIdentifier, IsNumeral, IsSymbol, IsLexeme, IsSpelling}
+use Rattle.pts_lex.specs.Scanning.{kind_of}
+use Rattle.pts_lex.proofs.Lexemes.{digit_not_letter, symbol_sign}
 
 abbrev some : TokenKind → Option TokenKind
 some k = Some k

@@ -4,8 +4,8 @@ use Rattle.std.specs.List.{list_any}
 use Rattle.std.proofs.lemmas.Bool.{eqb-true, ne_eqb}
 use Rattle.std.proofs.lemmas.List.{append-nil}
 use Rattle.std.proofs.lemmas.Bool.{cases_Bool, or_parts, or_from}
-use Rattle.pts_syntax.specs.Lexical.{line_feed, hash, is_white, IsGap, nothing, white, comment, IsBlank}
-use Rattle.pts_syntax.specs.Scanning.{blank_len}
+use Rattle.pts_lex.specs.Lexical.{line_feed, hash, is_white, IsGap, nothing, white, comment, IsBlank}
+use Rattle.pts_lex.specs.Scanning.{blank_len}
 
 -- no line feed
 abbrev pub IsLine : List ℕ → Type 0

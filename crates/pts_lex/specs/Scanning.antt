@@ -1,12 +1,12 @@
 -- Where the first token of a text begins and how long it is.
 use Rattle.std.specs.Prelude.{ℕ, suc, ◌+◌, ◌^◌, Bool, true, false, not, ◌==◌, nat_lt, if◌then◌else◌, List, [], ◌∷◌, take, drop, Option, Some, None, Result, Ok, Err}
 use Rattle.std.specs.List.{list_any, prefix_len}
-use Rattle.pts_syntax.specs.Lexical.{line_feed, hash, is_white, is_letter, is_digit, is_letter_or_digit, is_among, words, singles, doubles, number_of}
-use Rattle.pts_syntax.specs.declared.token.LexFault.{LexFault}
-use Rattle.pts_syntax.specs.declared.token.LexFault.TheVariants as faults
-use Rattle.pts_syntax.specs.declared.token.Token.{Token}
-use Rattle.pts_syntax.specs.declared.token.TokenKind.{TokenKind}
-use Rattle.pts_syntax.specs.declared.token.TokenKind.TheVariants.{Word, Name, Number, Symbol}
+use Rattle.pts_lex.specs.Lexical.{line_feed, hash, is_white, is_letter, is_digit, is_letter_or_digit, is_among, words, singles, doubles, number_of}
+use Rattle.pts_lex.specs.declared.token.LexFault.{LexFault}
+use Rattle.pts_lex.specs.declared.token.LexFault.TheVariants as faults
+use Rattle.pts_lex.specs.declared.token.Token.{Token}
+use Rattle.pts_lex.specs.declared.token.TokenKind.{TokenKind}
+use Rattle.pts_lex.specs.declared.token.TokenKind.TheVariants.{Word, Name, Number, Symbol}
 
 -- how many bytes of white space and comments stand at the front; the flag says that a comment is open
 abbrev pub blank_len : Bool → List ℕ → ℕ

@@ -1,7 +1,7 @@
 -- A number does not fall as further digits come.
 use Rattle.std.proofs.Common.{◌≡◌, ℕ, suc, ◌+◌, ◌-◌, ◌*◌, ◌^◌, ◌<◌, ◌≤◌, List, [], ◌∷◌, length, get_or, drop, drop-cons, refl, sym, ◌∙◌, arith}
 use Rattle.std.proofs.lemmas.List.{at_drop_all}
-use Rattle.pts_syntax.specs.Lexical.{number_from, number_of}
+use Rattle.pts_lex.specs.Lexical.{number_from, number_of}
 
 grows : (n : ℕ) (digits : List ℕ) → n ≤ number_from n digits
 grows n [] = omega arith

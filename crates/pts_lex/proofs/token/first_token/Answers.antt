@@ -1,5 +1,5 @@
-use Rattle.pts_syntax.proofs.Scans.{tells_token, tells_none, tells_fault}
-use Rattle.pts_syntax.proofs.token.first_token.Goals as goal
+use Rattle.pts_lex.proofs.Scans.{tells_token, tells_none, tells_fault}
+use Rattle.pts_lex.proofs.token.first_token.Goals as goal
 
 pub returns-clause-token : goal.returns-clause-token
 returns-clause-token c = tells_token c.args.bytes.now c.scan.result c.scan.ensures.value

@@ -2,19 +2,19 @@
 use Rattle.std.proofs.Common.{◌≡◌, ℕ, suc, ◌+◌, ◌-◌, ◌≤◌, false, eqb, List, [], ◌∷◌, ◌++◌, length, get_or, take, drop, Some, None, Ok, Err, Option, Result, refl, sym, ap, ◌∙◌, arith, append_assoc, length-append}
 use Rattle.std.proofs.lemmas.Bool.{ne_eqb, eqb-false}
 use Rattle.std.proofs.lemmas.List.{take_at, drop_at, drop_all}
-use Rattle.pts_syntax.specs.declared.token.LexFault.{LexFault}
-use Rattle.pts_syntax.specs.declared.token.LexFault.TheVariants as faults
-use Rattle.pts_syntax.specs.declared.token.Token.{Token}
-use Rattle.pts_syntax.specs.declared.token.TokenKind.{TokenKind}
+use Rattle.pts_lex.specs.declared.token.LexFault.{LexFault}
+use Rattle.pts_lex.specs.declared.token.LexFault.TheVariants as faults
+use Rattle.pts_lex.specs.declared.token.Token.{Token}
+use Rattle.pts_lex.specs.declared.token.TokenKind.{TokenKind}
 use Rattle.std.specs.Prelude.{◌↔◌, IfOk, IfErr, IfSome}
 use Rattle.std.specs.List.{slice_range}
-use Rattle.pts_syntax.specs.Lexical.{IsLexeme, IsSpelling, IsBlank, IsGap, IsFirstToken, IsStrayByte, IsGreatNumber, IsLexFault, Cuts, hash}
-use Rattle.pts_syntax.specs.Scanning.{blank_len, lexeme_len, kind_of, token_of, scan_at, scan}
-use Rattle.pts_syntax.proofs.Spellings.{IsTooGreat, kind_spells, too_great}
-use Rattle.pts_syntax.proofs.Gaps as gaps
-use Rattle.pts_syntax.proofs.Gaps.{IsSolid, Front, front, gap_before_solid, blank_to_the_end}
-use Rattle.pts_syntax.proofs.Lexemes as lexemes
-use Rattle.pts_syntax.proofs.Lexemes.{IsLongest, Found, First, first, lexeme_len_is, lexeme_solid, no_empty_lexeme}
+use Rattle.pts_lex.specs.Lexical.{IsLexeme, IsSpelling, IsBlank, IsGap, IsFirstToken, IsStrayByte, IsGreatNumber, IsLexFault, Cuts, hash}
+use Rattle.pts_lex.specs.Scanning.{blank_len, lexeme_len, kind_of, token_of, scan_at, scan}
+use Rattle.pts_lex.proofs.Spellings.{IsTooGreat, kind_spells, too_great}
+use Rattle.pts_lex.proofs.Gaps as gaps
+use Rattle.pts_lex.proofs.Gaps.{IsSolid, Front, front, gap_before_solid, blank_to_the_end}
+use Rattle.pts_lex.proofs.Lexemes as lexemes
+use Rattle.pts_lex.proofs.Lexemes.{IsLongest, Found, First, first, lexeme_len_is, lexeme_solid, no_empty_lexeme}
 
 -- ---- what is there is found
 
@@ -179,3 +179,32 @@ tells_fault bytes r e = fault_by bytes r (tells bytes r e)
 
 pub tells_none : (bytes : List ℕ) (r : Result (Option Token) LexFault) → r ≡ scan bytes → (r ≡ Ok None) ↔ IsBlank bytes
 tells_none bytes r e = (none_by bytes r (tells bytes r e), λ blank. e ∙ scan_blank bytes blank)
+
+-- ---- one cut for each text
+
+-- where the scanner comes to is where the parts of a cut lie
+pub cut_len : (bytes gap text rest : List ℕ) → Cuts bytes gap text rest → (blank_len false bytes ≡ length gap) × (lexeme_len (drop (length gap) bytes) ≡ length text)
+cut_len bytes gap [] rest c = absurd (no_empty_lexeme c.lexeme)
+cut_len bytes gap (b ∷ bs) rest c =
+    let solid = lexeme_solid b bs c.lexeme in
+    let l = lies bytes gap (b ∷ bs) rest c.parts in
+    (rw c.parts (gap_before_solid c.blank b (bs ++ rest) solid), rw l.at (lexeme_len_is (b ∷ bs) rest c.lexeme (longest_of bytes gap (b ∷ bs) rest c)))
+
+pub record AreSame (gap text rest gap2 text2 rest2 : List ℕ) : Type 0 where
+  pub gap_len : length gap2 ≡ length gap
+  pub same_text : text2 ≡ text
+  pub same_rest : rest2 ≡ rest
+
+pub one_cut : (bytes gap text rest gap2 text2 rest2 : List ℕ) → Cuts bytes gap text rest → Cuts bytes gap2 text2 rest2 → AreSame gap text rest gap2 text2 rest2
+one_cut bytes gap text rest gap2 text2 rest2 c d =
+    let m = cut_len bytes gap text rest c in
+    let n = cut_len bytes gap2 text2 rest2 d in
+    let same_gap : length gap2 ≡ length gap = sym n.0 ∙ m.0 in
+    let same_len : length text2 ≡ length text = sym n.1 ∙ rw same_gap m.1 in
+    let l = lies bytes gap text rest c.parts in
+    let k = lies bytes gap2 text2 rest2 d.parts in
+    record {
+      gap_len = same_gap;
+      same_text = sym k.is_text ∙ rw (same_gap, same_len) l.is_text;
+      same_rest = sym k.behind ∙ rw (same_gap, same_len) l.behind;
+    }

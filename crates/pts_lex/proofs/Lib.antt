@@ -1,0 +1,6 @@
+pub mod Gaps
+pub mod Lexemes
+pub mod Numerals
+pub mod Scans
+pub mod Spellings
+pub mod TokenLists
