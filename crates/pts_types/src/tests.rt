@@ -1,0 +1,1 @@
+//! Tables of values from two's complement by hand.
