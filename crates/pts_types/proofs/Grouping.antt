@@ -1,6 +1,6 @@
 -- Which operations may be grouped and turned freely.
-use Rattle.std.proofs.Common.{◌≡◌, ℕ, ◌+◌, ◌*◌, ◌%◌, ◌^◌, ◌<◌, min, max, ℤ, refl, sym, ap, ◌∙◌, arith}
-use Rattle.std.specs.Prelude.{◌≤ℤ◌, bit_and, bit_or, bit_xor, Result, Ok, Err}
+use Rattle.std.proofs.Common.{◌≡◌, ℕ, ◌*◌, ◌%◌, ◌^◌, ◌<◌, min, max, ℤ, sym, ap, ◌∙◌, arith}
+use Rattle.std.specs.Prelude.{◌≤ℤ◌, bit_and, bit_or, bit_xor, Result, Ok}
 use Rattle.std.specs.Int.{int_min, int_max}
 use Rattle.std.specs.Int.Bits.{xor_assoc, and_lt}
 use Rattle.std.proofs.lemmas.Int.{ints, clamps}
@@ -12,7 +12,6 @@ use Rattle.pts_types.specs.declared.operation.ScalarOp.{ScalarOp}
 use Rattle.pts_types.specs.declared.operation.ScalarOp.TheVariants.{Plus, Multiplies, BitAnd, BitOr, BitXor, Min, Max}
 use Rattle.pts_types.specs.declared.value.Thrown.{Thrown}
 use Rattle.pts_types.specs.declared.value.Value.{Value}
-use Rattle.pts_types.specs.declared.value.Value.TheVariants as values
 use Rattle.pts_types.specs.declared.value.Value.TheVariants.{U64, I64}
 use Rattle.pts_types.proofs.Bitwise.{unsigned-signed, unsigned-lt, or_assoc}
 

@@ -115,8 +115,8 @@ fn apply_bool(op: ScalarOp, x: bool, y: bool) -> bool
     }
 }
 
-/// What was found, or the overflow.
-pub fn exact(found: Option<i64>) -> Result<Value, Thrown>
+// What was found, or the overflow.
+pub(crate) fn exact(found: Option<i64>) -> Result<Value, Thrown>
     ensures { MatchOption found (result ≡ Err Thrown.Overflow) (λ z. result ≡ Ok (Value.I64 z)) }
 {
     match found {

@@ -1,9 +1,8 @@
-use Rattle.std.proofs.Common.{◌≡◌, ℤ, ◌+◌, ◌^◌, ◌<◌, ap, ◌∙◌, arith, rules, w64, of_z, FitsSigned}
-use Rattle.std.specs.Prelude.{bit_or, bit_xor, Ok}
+use Rattle.std.proofs.Common.{◌^◌, ◌<◌, ap, arith, w64, of_z}
+use Rattle.std.specs.Prelude.{Ok}
 use Rattle.std.proofs.lemmas.Int.{ints}
 use Rattle.std.proofs.lemmas.Nat.{or_lt, xor_lt}
 use Rattle.pts_types.specs.declared.value.Value.TheVariants.{I64}
-use Rattle.pts_types.specs.Arithmetic.{signed_of, unsigned_of}
 use Rattle.pts_types.proofs.Bitwise.{signed-is, unsigned-is}
 use Rattle.pts_types.proofs.operation.apply_i64.Goals as goal
 
