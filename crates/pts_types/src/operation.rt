@@ -1,7 +1,8 @@
 //! Operations on two values, and the policies under which algorithms apply them.
 
-ghost use Rattle.std.specs.Prelude.{◌≡◌, Ok};
-ghost use Rattle.pts_types.specs.Arithmetic.{IsU64, wrapped_sum};
+ghost use Rattle.std.specs.Prelude.{◌≡◌, Ok, Err, MatchOption};
+ghost use Rattle.pts_types.specs.declared.value.Kind.{Kind};
+ghost use Rattle.pts_types.specs.Arithmetic.{IsEquality, bool_under, i64_under, kind_of, u64_under, value_under};
 
 use crate::value::{Thrown, Value};
 
@@ -37,39 +38,89 @@ pub enum Policy {
     Vector,
 }
 
-/// The operation on two values. So far it is `Plus` on two `u64`s: their sum modulo 2^64, which throws nothing.
+/// The operation on two values of one kind, which is `bool` for `Equal` and `NotEqual` alone.
+///
+/// On `u64`, `Plus`, `Minus` and `Multiplies` are modulo 2^64. On `i64` they are exact, and Overflow comes where the
+/// result is out of range. `Divides` and `Modulus` round the quotient towards zero, so that a remainder has the
+/// dividend's sign ([expr.mul] of C++17); DivZero comes where the divisor is 0, and Overflow for the least `i64` by -1.
+/// The bitwise operations on `i64` are those of two's complement. Nothing else is thrown.
 pub fn apply(op: ScalarOp, x: Value, y: Value) -> Result<Value, Thrown>
-    requires plus { op ≡ ScalarOp.Plus }
-    requires left { IsU64 x }
-    requires right { IsU64 y }
-    ensures { result ≡ Ok (wrapped_sum x y) }
+    requires kinds { kind_of x ≡ kind_of y }
+    requires operation { kind_of x ≡ Kind.Bool → IsEquality op }
+    ensures { result ≡ value_under op x y }
 {
-    match (op, x, y) {
-        (ScalarOp::Plus, Value::U64(x), Value::U64(y)) => Ok(Value::U64(x.wrapping_add(y))),
+    match (x, y) {
+        (Value::U64(x), Value::U64(y)) => apply_u64(op, x, y),
+        (Value::I64(x), Value::I64(y)) => apply_i64(op, x, y),
+        (Value::Bool(x), Value::Bool(y)) => Ok(Value::Bool(apply_bool(op, x, y))),
         _ => unreachable!(),
     }
 }
 
-#[cfg(test)]
-mod tests {
-    use super::*;
+fn apply_u64(op: ScalarOp, x: u64, y: u64) -> Result<Value, Thrown>
+    ensures { result ≡ u64_under op x y }
+{
+    match op {
+        ScalarOp::Plus => Ok(Value::U64(x.wrapping_add(y))),
+        ScalarOp::Minus => Ok(Value::U64(x.wrapping_sub(y))),
+        ScalarOp::Multiplies => Ok(Value::U64(x.wrapping_mul(y))),
+        ScalarOp::Divides if y != 0 => Ok(Value::U64(x / y)),
+        ScalarOp::Modulus if y != 0 => Ok(Value::U64(x % y)),
+        ScalarOp::Divides | ScalarOp::Modulus => Err(Thrown::DivZero),
+        ScalarOp::BitAnd => Ok(Value::U64(x & y)),
+        ScalarOp::BitOr => Ok(Value::U64(x | y)),
+        ScalarOp::BitXor => Ok(Value::U64(x ^ y)),
+        ScalarOp::Min => Ok(Value::U64(x.min(y))),
+        ScalarOp::Max => Ok(Value::U64(x.max(y))),
+        ScalarOp::Less => Ok(Value::Bool(x < y)),
+        ScalarOp::LessEqual => Ok(Value::Bool(x <= y)),
+        ScalarOp::Greater => Ok(Value::Bool(x > y)),
+        ScalarOp::GreaterEqual => Ok(Value::Bool(x >= y)),
+        ScalarOp::Equal => Ok(Value::Bool(x == y)),
+        ScalarOp::NotEqual => Ok(Value::Bool(x != y)),
+    }
+}
 
-    #[test]
-    fn adds_modulo_two_to_the_sixty_four(rt: HostRuntime) {
-        let table = [
-            (0, 0, 0),
-            (1, 2, 3),
-            (18_446_744_073_709_551_615, 1, 0),
-            (
-                18_446_744_073_709_551_615,
-                18_446_744_073_709_551_615,
-                18_446_744_073_709_551_614,
-            ),
-            (9_223_372_036_854_775_808, 9_223_372_036_854_775_808, 0),
-        ];
-        for (x, y, sum) in table {
-            let found = apply(ScalarOp::Plus, Value::U64(x), Value::U64(y));
-            assert_eq!(rt; found, Ok(Value::U64(sum)));
-        }
+fn apply_i64(op: ScalarOp, x: i64, y: i64) -> Result<Value, Thrown>
+    ensures { result ≡ i64_under op x y }
+{
+    match op {
+        ScalarOp::Plus => exact(x.checked_add(y)),
+        ScalarOp::Minus => exact(x.checked_sub(y)),
+        ScalarOp::Multiplies => exact(x.checked_mul(y)),
+        ScalarOp::Divides if y != 0 => exact(x.checked_div(y)),
+        ScalarOp::Modulus if y != 0 => exact(x.checked_rem(y)),
+        ScalarOp::Divides | ScalarOp::Modulus => Err(Thrown::DivZero),
+        ScalarOp::BitAnd => Ok(Value::I64(x & y)),
+        ScalarOp::BitOr => Ok(Value::I64(x | y)),
+        ScalarOp::BitXor => Ok(Value::I64(x ^ y)),
+        ScalarOp::Min => Ok(Value::I64(x.min(y))),
+        ScalarOp::Max => Ok(Value::I64(x.max(y))),
+        ScalarOp::Less => Ok(Value::Bool(x < y)),
+        ScalarOp::LessEqual => Ok(Value::Bool(x <= y)),
+        ScalarOp::Greater => Ok(Value::Bool(x > y)),
+        ScalarOp::GreaterEqual => Ok(Value::Bool(x >= y)),
+        ScalarOp::Equal => Ok(Value::Bool(x == y)),
+        ScalarOp::NotEqual => Ok(Value::Bool(x != y)),
+    }
+}
+
+fn apply_bool(op: ScalarOp, x: bool, y: bool) -> bool
+    ensures { result ≡ bool_under op x y }
+{
+    if op == ScalarOp::NotEqual {
+        x != y
+    } else {
+        x == y
+    }
+}
+
+// What was found, or the overflow.
+pub(crate) fn exact(found: Option<i64>) -> Result<Value, Thrown>
+    ensures { MatchOption found (result ≡ Err Thrown.Overflow) (λ z. result ≡ Ok (Value.I64 z)) }
+{
+    match found {
+        Some(value) => Ok(Value::I64(value)),
+        None => Err(Thrown::Overflow),
     }
 }

@@ -1,5 +1,8 @@
 //! Values, what an evaluation may throw, and want of memory.
 
+ghost use Rattle.std.specs.Prelude.{◌≡◌};
+ghost use Rattle.pts_types.specs.declared.value.Value.TheVariants.{U64};
+
 /// The kind of a value.
 #[derive(Clone, Copy, Debug, PartialEq, Eq, Hash)]
 pub enum Kind {
@@ -8,12 +11,20 @@ pub enum Kind {
     Bool,
 }
 
-/// A value beside its kind.
+/// A value beside its kind. The default is 0 of kind `u64`.
 #[derive(Clone, Copy, Debug, PartialEq, Eq, Hash)]
 pub enum Value {
     I64(i64),
     U64(u64),
     Bool(bool),
+}
+
+impl Default for Value {
+    ghost is_default = { λ value. value ≡ U64 0 };
+
+    fn default() -> Self {
+        Value::U64(0)
+    }
 }
 
 /// What an evaluation throws: a code of the script from 0 to 999, or a fault of the arithmetic.
