@@ -1,0 +1,154 @@
+-- Which signs spell a statement of a loop or of a task block, and which statements the grammar has.
+use Rattle.std.specs.Prelude.{Bool, true, false, ◌&&◌, is_some, Option, Some, None, List, [], ◌∷◌}
+use Rattle.std.specs.List.{list_all}
+use Rattle.pts_types.specs.declared.operation.ScalarOp.{ScalarOp}
+use Rattle.pts_types.specs.declared.operation.ScalarOp.TheVariants as ops
+use Rattle.pts_tree.specs.declared.mark.Mark as mark
+use Rattle.pts_tree.specs.declared.mark.Mark.TheVariants as m
+use Rattle.pts_tree.specs.declared.sum.Sum.{Sum}
+use Rattle.pts_tree.specs.declared.sum.Val.{Val}
+use Rattle.pts_tree.specs.declared.expr.Place.{Place}
+use Rattle.pts_tree.specs.declared.loops.Loop.{Loop}
+use Rattle.pts_tree.specs.declared.loops.Clause.{Clause}
+use Rattle.pts_tree.specs.declared.loops.Clause.TheVariants as clauses
+use Rattle.pts_tree.specs.declared.loops.ReduceClause.{ReduceClause}
+use Rattle.pts_tree.specs.declared.loops.InductClause.{InductClause}
+use Rattle.pts_tree.specs.declared.loops.Initial.{Initial}
+use Rattle.pts_tree.specs.declared.loops.Initial.TheVariants as initials
+use Rattle.pts_tree.specs.declared.loops.BodyStmt.{BodyStmt}
+use Rattle.pts_tree.specs.declared.loops.BodyStmt.TheOpen.{BodyStmt-F}
+use Rattle.pts_tree.specs.declared.loops.BodyStmt.TheFolds.{fold-BodyStmt}
+use Rattle.pts_tree.specs.declared.block.TaskStmt.{TaskStmt}
+use Rattle.pts_tree.specs.declared.block.TaskStmt.TheOpen.{TaskStmt-F, Block-F}
+use Rattle.pts_tree.specs.declared.block.TaskStmt.TheFolds.{fold-TaskStmt, fold-Block}
+use Rattle.pts_tree.specs.declared.block.Block.{Block}
+use Rattle.pts_tree.specs.Signs.{Sign, Mark, Name, Number}
+use Rattle.pts_tree.specs.Spelling.{Text, each, optional, word, kind, policy, sum, val, cell, op, op_allowed, call, call_allowed, if_there}
+use Rattle.pts_tree.specs.Expressions.{expr, expr_allowed}
+
+-- what spells a statement, and whether the grammar has it
+pub record Phrase : Type 0 where
+  pub text : Text
+  pub allowed : Bool
+
+abbrev pub phrase_text : Phrase → Text
+phrase_text x = x.text
+
+abbrev pub phrase_allowed : Phrase → Bool
+phrase_allowed x = x.allowed
+
+-- statements between braces
+abbrev pub braced : List Phrase → Text
+braced xs tail = Mark m.OpenBrace ∷ each phrase_text xs (Mark m.CloseBrace ∷ tail)
+
+-- ---- statements of a loop's body
+
+abbrev pub place : Place → Text
+place x tail = Name x.array ∷ Mark m.OpenBracket ∷ expr x.index (Mark m.CloseBracket ∷ tail)
+
+abbrev pub upd_mark : ScalarOp → Option mark.Mark
+upd_mark ops.Plus = Some m.PlusEqual
+upd_mark ops.Minus = Some m.MinusEqual
+upd_mark ops.Multiplies = Some m.StarEqual
+upd_mark ops.BitAnd = Some m.AmpersandEqual
+upd_mark ops.BitOr = Some m.BarEqual
+upd_mark ops.BitXor = Some m.CaretEqual
+upd_mark _ = None
+
+abbrev pub else_part : List Phrase → Text
+else_part xs tail = Mark m.Else ∷ braced xs tail
+
+abbrev pub phrase_step : BodyStmt-F Phrase → Phrase
+phrase_step (BodyStmt-F.Assign at x) = record { text = λ tail. place at (Mark m.Equal ∷ expr x (Mark m.Semicolon ∷ tail)); allowed = expr_allowed at.index && expr_allowed x }
+phrase_step (BodyStmt-F.Let text x) = record { text = λ tail. Mark m.Let ∷ Name text ∷ Mark m.Equal ∷ expr x (Mark m.Semicolon ∷ tail); allowed = expr_allowed x }
+phrase_step (BodyStmt-F.Combine text x) = record { text = λ tail. Name text ∷ Mark m.TildeEqual ∷ expr x (Mark m.Semicolon ∷ tail); allowed = expr_allowed x }
+phrase_step (BodyStmt-F.If x xs ys) = record { text = λ tail. Mark m.If ∷ expr x (braced xs (optional else_part ys tail)); allowed = expr_allowed x && list_all phrase_allowed xs && if_there (list_all phrase_allowed) ys }
+phrase_step (BodyStmt-F.VecOff xs) = record { text = λ tail. Mark m.VecOff ∷ braced xs tail; allowed = list_all phrase_allowed xs }
+phrase_step (BodyStmt-F.Ordered at o x) = record { text = λ tail. Mark m.Ordered ∷ place at (optional word (upd_mark o) (expr x (Mark m.Semicolon ∷ tail))); allowed = is_some (upd_mark o) && expr_allowed at.index && expr_allowed x }
+
+unfoldable pub phrase : BodyStmt → Phrase
+phrase = fold-BodyStmt Phrase phrase_step
+
+abbrev pub bstmt : BodyStmt → Text
+bstmt x = (phrase x).text
+
+abbrev pub bstmt_allowed : BodyStmt → Bool
+bstmt_allowed x = (phrase x).allowed
+
+-- ---- loops
+
+abbrev pub step_part : Sum → Text
+step_part x tail = Mark m.Step ∷ sum x tail
+
+abbrev pub identity_part : Val → Text
+identity_part x tail = Mark m.Identity ∷ val x tail
+
+abbrev pub initial : Initial → Text
+initial (initials.Val x) tail = val x tail
+initial (initials.Cell x) tail = cell x tail
+
+abbrev pub reduce_clause : ReduceClause → Text
+reduce_clause x tail = Mark m.Reduce ∷ cell x.cell (op x.op (optional identity_part x.identity (Mark m.As ∷ Name x.view ∷ tail)))
+
+abbrev pub induct_clause : InductClause → Text
+induct_clause x tail = Mark m.Induct ∷ Name x.name ∷ Mark m.Colon ∷ Mark (kind x.kind) ∷ Mark m.Equal ∷ initial x.initial (optional step_part x.step tail)
+
+abbrev pub clause : Clause → Text
+clause (clauses.Reduce x) tail = reduce_clause x tail
+clause (clauses.Induct x) tail = induct_clause x tail
+
+abbrev pub clause_allowed : Clause → Bool
+clause_allowed (clauses.Reduce x) = op_allowed x.op
+clause_allowed (clauses.Induct x) = true
+
+abbrev pub loop : Loop → Text
+loop x tail =
+    Mark m.ForLoop ∷ Mark (policy x.policy) ∷ Name x.index ∷ Mark m.Equal ∷ sum x.low (Mark m.To ∷ sum x.high (optional step_part x.step
+    (each clause x.clauses (Mark m.OpenBrace ∷ each bstmt x.body (Mark m.CloseBrace ∷ tail)))))
+
+abbrev pub loop_allowed : Loop → Bool
+loop_allowed x = list_all clause_allowed x.clauses && list_all bstmt_allowed x.body
+
+-- ---- task blocks
+
+-- what spells a statement of a block, whether the grammar has it, and whether it may stand directly in a `run`
+pub record Task : Type 0 where
+  pub text : Text
+  pub allowed : Bool
+  pub in_run : Bool
+
+abbrev pub task_text : Task → Text
+task_text x = x.text
+
+abbrev pub task_allowed : Task → Bool
+task_allowed x = x.allowed
+
+abbrev pub run_allowed : Task → Bool
+run_allowed x = x.in_run && x.allowed
+
+abbrev pub tasks : List Task → Text
+tasks xs tail = Mark m.OpenBrace ∷ each task_text xs (Mark m.CloseBrace ∷ tail)
+
+abbrev pub task_step : TaskStmt-F Task Phrase → Task
+task_step (TaskStmt-F.Run xs) = record { text = λ tail. Mark m.Run ∷ tasks xs tail; allowed = list_all run_allowed xs; in_run = false }
+task_step TaskStmt-F.Wait = record { text = λ tail. Mark m.Wait ∷ Mark m.Semicolon ∷ tail; allowed = true; in_run = false }
+task_step (TaskStmt-F.Throw n) = record { text = λ tail. Mark m.Throw ∷ Number n ∷ Mark m.Semicolon ∷ tail; allowed = true; in_run = true }
+task_step (TaskStmt-F.Assign at x) = record { text = λ tail. cell at (Mark m.Equal ∷ expr x (Mark m.Semicolon ∷ tail)); allowed = expr_allowed x; in_run = true }
+task_step (TaskStmt-F.Call x) = record { text = call x; allowed = call_allowed x; in_run = true }
+task_step (TaskStmt-F.Loop x) = record { text = loop x; allowed = loop_allowed x; in_run = true }
+task_step (TaskStmt-F.Block x) = record { text = x.text; allowed = x.allowed; in_run = true }
+
+abbrev pub block_step : Block-F Task Phrase → Phrase
+block_step x = record { text = λ tail. Mark m.TaskBlock ∷ tasks x.body tail; allowed = list_all task_allowed x.body }
+
+unfoldable pub task : TaskStmt → Task
+task = fold-TaskStmt Task Phrase task_step block_step
+
+unfoldable pub whole_block : Block → Phrase
+whole_block = fold-Block Task Phrase task_step block_step
+
+abbrev pub tstmt : TaskStmt → Text
+tstmt x = (task x).text
+
+abbrev pub block : Block → Text
+block x = (whole_block x).text
