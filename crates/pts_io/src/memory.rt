@@ -1,6 +1,6 @@
 //! Sources and sinks over memory, whose calls can be told to fail.
 
-ghost use Rattle.std.specs.Prelude.{◌≡◌, ◌⊎◌, ◌+◌, ◌≤◌, ◌↔◌, ◌++◌, List, ℕ, Some, length, take, drop, min, vec_len, vec_capacity, Contains, IfOk, IsErr, OnErr};
+ghost use Rattle.std.specs.Prelude.{◌≡◌, ◌⊎◌, ◌+◌, ◌≤◌, ◌↔◌, ◌++◌, List, ℕ, Some, length, take, drop, min, vec_len, vec_capacity, Contains, IfOk, IsOk, IsErr, OnErr};
 ghost use Rattle.pts_io.specs.Memory.{SourceState, SinkState, new_source, source_without, failed_source, new_sink, sink_with, failed_sink};
 
 use crate::streams::{Failed, Sink, Source};
@@ -46,7 +46,7 @@ impl Source for MemorySource {
 
     ghost faults = { λ s. s.faults };
 
-    /// Fills `buf` as far as bytes are left. Calls past the last count have its number.
+    /// Fills `buf` as far as bytes are left. The number of a call stands still at `u64::MAX`, as does the count of faults.
     fn next(&mut self, buf: &mut [u8]) -> Result<usize, Failed>
         ensures fails { IsErr result ↔ Contains self.old.fails self.old.calls }
         ensures fault { OnErr result (self.new ≡ failed_source self.old) }
@@ -88,9 +88,11 @@ impl Model for MemorySink {
 }
 
 impl MemorySink {
-    /// A sink with room for this many bytes. `fails` are the numbers of the calls that fail, and the first call has number 0.
+    /// A sink with room for this many bytes, whose memory is taken here. `fails` are the numbers of the calls that fail,
+    /// and the first call has number 0.
     pub fn new(alloc: Global, room: usize, fails: Vec<u64>) -> Result<MemorySink, NoMemory>
-        ensures { IfOk result (λ sink. sink ≡ new_sink room fails.items) }
+        ensures ok { IfOk result (λ sink. sink ≡ new_sink room fails.items) }
+        ensures empty { room ≡ 0 → IsOk result }
     {
         let bytes = Vec::with_capacity(alloc, room).map_err(|_| NoMemory)?;
         Ok(MemorySink {
@@ -115,7 +117,8 @@ impl Sink for MemorySink {
 
     ghost faults = { λ s. s.faults };
 
-    /// Takes as much of the piece as there is room for, and fails where there is none. Calls past the last count have its number.
+    /// Takes as much of the piece as there is room for, and fails where there is none. It takes no memory.
+    /// The number of a call stands still at `u64::MAX`, as does the count of faults.
     fn put(&mut self, piece: &[u8]) -> Result<usize, Failed>
         ensures fails { IsErr result ↔ (Contains self.old.fails self.old.calls ⊎ (self.old.room ≡ 0)) }
         ensures fault { OnErr result (self.new ≡ failed_sink self.old) }

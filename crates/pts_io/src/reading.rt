@@ -14,7 +14,9 @@ const CHUNK: usize = 8192;
 /// Why a source was not read to its end.
 #[derive(Clone, Copy, Debug, PartialEq, Eq)]
 pub enum ReadEnd {
+    /// A call of the source failed.
     Fault,
+    /// The source gave more bytes than the limit.
     TooLong,
     NoMemory,
 }

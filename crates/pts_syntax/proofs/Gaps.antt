@@ -1,6 +1,5 @@
 -- White space and comments: what `blank_len` counts is a gap, and it counts all of a gap.
-use Rattle.std.proofs.Common.{◌≡◌, ℕ, suc, ◌+◌, Bool, true, false, cond, not, eqb, List, [], ◌∷◌, ◌++◌, length, refl, sym, ap, subst, ◌∙◌, inl, inr, arith, append_assoc, length-append}
-use Rattle.std.specs.Prelude.{◌||◌}
+use Rattle.std.proofs.Common.{◌≡◌, ℕ, suc, ◌+◌, true, false, eqb, List, [], ◌∷◌, ◌++◌, length, refl, sym, ap, subst, ◌∙◌, inl, inr, arith, append_assoc, length-append}
 use Rattle.std.specs.List.{list_any}
 use Rattle.std.proofs.lemmas.Bool.{eqb-true, ne_eqb}
 use Rattle.std.proofs.lemmas.List.{append-nil}
@@ -25,7 +24,7 @@ pub data Front (bytes : List ℕ) : Type 0 where
 -- the same with a comment open at the front
 data Inside (bytes : List ℕ) : Type 0 where
   solid : (text gap : List ℕ) (b : ℕ) (rest : List ℕ) → bytes ≡ text ++ line_feed ∷ gap ++ b ∷ rest → IsLine text → IsGap gap → IsSolid b
-    → blank_len true bytes ≡ length text + suc (length gap) → Inside bytes
+      → blank_len true bytes ≡ length text + suc (length gap) → Inside bytes
   ended : (text rest : List ℕ) → bytes ++ line_feed ∷ [] ≡ text ++ line_feed ∷ rest → IsLine text → IsGap rest → blank_len true bytes ≡ length bytes → Inside bytes
 
 white_is_solid : (b : ℕ) → is_white b ≡ true → eqb b hash ≡ false
@@ -37,7 +36,7 @@ front_comment b bs h (solid text gap c rest e line g s len) =
     (rw h (ap suc (len ∙ sym (length-append text (line_feed ∷ gap)))))
 front_comment b bs h (ended text rest e line g len) =
     ended (let i : hash ∷ text ++ line_feed ∷ rest ≡ b ∷ bs ++ line_feed ∷ [] = let k : b ≡ hash = eqb-true b hash h in cc in
-        subst IsGap i (comment text rest line (white refl g))) (rw h (ap suc len))
+    subst IsGap i (comment text rest line (white refl g))) (rw h (ap suc len))
 
 front_white : (b : ℕ) (bs : List ℕ) → eqb b hash ≡ false → is_white b ≡ true → Front bs → Front (b ∷ bs)
 front_white b bs h w (solid gap c rest e g s len) = solid (b ∷ gap) c rest (ap (λ (t : List ℕ). b ∷ t) e) (white w g) s (rw (h, w) (ap suc len))
@@ -62,9 +61,9 @@ mutual
       elim (cases_Bool (eqb b hash)) [
         | inl h ↦ front_comment b bs h (inside bs)
         | inr h ↦ elim (cases_Bool (is_white b)) [
-            | inl w ↦ front_white b bs h w (front bs)
-            | inr w ↦ solid [] b bs refl nothing (record { not_white = w; not_hash = h }) (rw (h, w) refl)
-          ]
+          | inl w ↦ front_white b bs h w (front bs)
+          | inr w ↦ solid [] b bs refl nothing (record { not_white = w; not_hash = h }) (rw (h, w) refl)
+        ]
       ]
 
   inside : (bytes : List ℕ) → Inside bytes

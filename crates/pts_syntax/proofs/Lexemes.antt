@@ -1,9 +1,9 @@
 -- Lexemes: `lexeme_len` finds the longest one at the front, and it finds none only where none is.
-use Rattle.std.proofs.Common.{◌≡◌, ◌≢◌, ℕ, suc, ◌+◌, ◌-◌, ◌<◌, ◌≤◌, Bool, true, false, cond, not, eqb, leb, List, [], ◌∷◌, ◌++◌, length, get_or, refl, sym, ap, subst, ◌∙◌, inl, inr, arith, append_assoc, length-append}
-use Rattle.std.specs.Prelude.{◌||◌, ◌&&◌, ◌⊎◌}
+use Rattle.std.proofs.Common.{◌≡◌, ◌≢◌, ℕ, suc, ◌≤◌, Bool, true, false, not, eqb, leb, List, [], ◌∷◌, ◌++◌, length, get_or, refl, sym, ap, subst, ◌∙◌, inl, inr, arith}
+use Rattle.std.specs.Prelude.{◌&&◌}
 use Rattle.std.specs.List.{list_any, list_all, prefix_len}
 use Rattle.std.specs.Str.{bytes_eq}
-use Rattle.std.proofs.lemmas.Bool.{eqb-true, ne_eqb, leb-true, lt-leb, cases_Bool, and_parts, and_from, and_left, and_right, or_cases, or_parts, or_from, or_left, or_right, not-true, both_ways, false≢true}
+use Rattle.std.proofs.lemmas.Bool.{eqb-true, ne_eqb, leb-true, lt-leb, cases_Bool, and_parts, and_from, and_left, or_cases, or_from, not-true, both_ways, false≢true}
 use Rattle.std.proofs.lemmas.Slice.Eq.{bytes_eq-Decides}
 use Rattle.pts_syntax.specs.Lexical.{hash, is_white, is_letter, is_digit, is_letter_or_digit, is_among, singles, doubles, IsIdentifier, IsNumeral, IsSymbol, IsLexeme}
 use Rattle.pts_syntax.specs.Scanning.{is_single, is_double, symbol_len, lexeme_len}
@@ -49,7 +49,7 @@ symbol_sign b [] h = sign_is b (single_sign b singles h refl)
 symbol_sign b (c ∷ []) h = sign_is b (double_sign b c doubles h refl)
 symbol_sign b (c ∷ d ∷ bs) h = absurd h
 
-digit_not_letter : (b : ℕ) → is_digit b ≡ true → is_letter b ≡ false
+pub digit_not_letter : (b : ℕ) → is_digit b ≡ true → is_letter b ≡ false
 digit_not_letter b h =
     let p = and_parts (leb 48 b) (leb b 57) h in
     let high : b ≤ 57 = leb-true b 57 p.1 in
@@ -105,13 +105,13 @@ span p (x ∷ xs) =
     elim (cases_Bool (p x)) [
       | inl holds ↦ span_more p x xs holds (span p xs)
       | inr fails ↦ record {
-          front = [];
-          back = x ∷ xs;
-          parts = refl;
-          pass = refl;
-          len = rw fails refl;
-          stops = λ c cs e. let head : x ≡ c = cc in subst (λ (n : ℕ). p n ≡ false) head fails;
-        }
+        front = [];
+        back = x ∷ xs;
+        parts = refl;
+        pass = refl;
+        len = rw fails refl;
+        stops = λ c cs e. let head : x ≡ c = cc in subst (λ (n : ℕ). p n ≡ false) head fails;
+      }
     ]
 
 -- what passes as far as it goes
@@ -260,7 +260,7 @@ found_single b rest single no_double len =
       len = rw (s.not_letter, s.not_digit) len;
       lexeme = inr (inr single);
       longest = longest_by (b ∷ []) rest (λ c cs after e lexeme.
-        both_ways (is_double b c) (no_double c (cs ++ after) e) (longer_symbol b c cs s lexeme).1);
+          both_ways (is_double b c) (no_double c (cs ++ after) e) (longer_symbol b c cs s lexeme).1);
     }
 
 -- what lexeme_len finds: the longest lexeme, or that none begins the text
@@ -305,7 +305,7 @@ first b bs =
     elim (cases_Bool (is_letter b)) [
       | inl letter ↦ found (found_identifier b bs letter)
       | inr letter ↦ elim (cases_Bool (is_digit b)) [
-          | inl digit ↦ found (found_numeral b bs letter digit)
-          | inr digit ↦ first_symbol b bs letter digit
-        ]
+        | inl digit ↦ found (found_numeral b bs letter digit)
+        | inr digit ↦ first_symbol b bs letter digit
+      ]
     ]

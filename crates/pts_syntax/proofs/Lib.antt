@@ -1,3 +1,12 @@
-pub mod Numerals
+pub mod Ascii
+pub mod Cells
+pub mod Fronts
 pub mod Gaps
+pub mod WholeItems
 pub mod Lexemes
+pub mod Numerals
+pub mod Places
+pub mod Scans
+pub mod Scripts
+pub mod Spellings
+pub mod Steps

@@ -1,7 +1,10 @@
 -- What the tokens of a script are: words, names, numbers and symbols, with white space and comments between them.
-use Rattle.std.specs.Prelude.{◌≡◌, ◌≢◌, ◌⊎◌, ℕ, ◌+◌, ◌-◌, ◌*◌, ◌<◌, ◌^◌, Bool, true, false, ◌&&◌, ◌||◌, ◌==◌, nat_le, List, [], ◌∷◌, ◌++◌, length, fold, codes}
+use Rattle.std.specs.Prelude.{◌≡◌, ◌≢◌, ◌⊎◌, ℕ, ◌+◌, ◌-◌, ◌*◌, ◌<◌, ◌≤◌, ◌^◌, Bool, true, false, ◌&&◌, ◌||◌, ◌==◌, nat_le, List, [], ◌∷◌, ◌++◌, length, take, drop, slice_index, slice_range, fold, codes}
 use Rattle.std.specs.List.{list_any, list_all}
 use Rattle.std.specs.Str.{bytes_eq}
+use Rattle.pts_syntax.specs.declared.token.LexFault.{LexFault}
+use Rattle.pts_syntax.specs.declared.token.LexFault.TheVariants as faults
+use Rattle.pts_syntax.specs.declared.token.Token.{Token}
 use Rattle.pts_syntax.specs.declared.token.TokenKind.{TokenKind}
 use Rattle.pts_syntax.specs.declared.token.TokenKind.TheVariants.{Word, Name, Number, Symbol}
 
@@ -107,3 +110,31 @@ pub record Cuts (bytes gap text rest : List ℕ) : Type 0 where
   pub blank : IsGap gap
   pub lexeme : IsLexeme text
   pub longest : (more after : List ℕ) → rest ≡ more ++ after → more ≢ [] → IsLexeme (text ++ more) → ⊥
+
+-- the first token of a text
+pub record IsFirstToken (bytes : List ℕ) (t : Token) : Type 0 where
+  pub ordered : t.start ≤ t.end
+  pub within : t.end ≤ length bytes
+  pub cuts : Cuts bytes (take t.start bytes) (slice_range bytes t.start t.end) (drop t.end bytes)
+  pub spells : IsSpelling t.kind (slice_range bytes t.start t.end)
+
+-- behind a gap no token begins at this byte
+pub record IsStrayByte (bytes : List ℕ) (at : ℕ) : Type 0 where
+  pub within : at < length bytes
+  pub blank : IsGap (take at bytes)
+  pub not_white : is_white (slice_index bytes at) ≡ false
+  pub not_hash : slice_index bytes at ≢ hash
+  pub none : (text rest : List ℕ) → drop at bytes ≡ text ++ rest → IsLexeme text → ⊥
+
+-- behind a gap a number from 2 ^ 64 on begins at this byte
+pub record IsGreatNumber (bytes : List ℕ) (at : ℕ) : Type 0 where
+  pub within : at < length bytes
+  pub text : List ℕ
+  pub rest : List ℕ
+  pub cuts : Cuts bytes (take at bytes) text rest
+  pub numeral : IsNumeral text
+  pub above : 2 ^ 64 ≤ number_of text
+
+abbrev pub IsLexFault : List ℕ → LexFault → Type 0
+IsLexFault bytes (faults.Byte at) = IsStrayByte bytes at
+IsLexFault bytes (faults.Number at) = IsGreatNumber bytes at

@@ -1,3 +1,4 @@
 pub mod First
 pub mod Lexical
+pub mod Reading
 pub mod Scanning

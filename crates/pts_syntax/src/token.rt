@@ -1,6 +1,6 @@
 //! The first token of a text.
 
-ghost use Rattle.std.specs.Prelude.{◌≡◌, ◌+◌, ◌-◌, ◌*◌, ◌^◌, ◌<◌, ◌≤◌, ◌↔◌, length, map, IsTrue, true, false};
+ghost use Rattle.std.specs.Prelude.{◌≡◌, ◌+◌, ◌-◌, ◌*◌, ◌^◌, ◌<◌, ◌≤◌, ◌↔◌, length, map, false, IfErr, IfOk, IfSome};
 ghost use Rattle.std.specs.List.{prefix_len};
 ghost use Rattle.std.specs.Option.{SomeIff};
 ghost use Rattle.pts_syntax.specs.Lexical as lexical;
@@ -117,7 +117,26 @@ fn is_single(b: u8) -> bool
 {
     matches!(
         b,
-        b';' | b':' | b',' | b'=' | b'(' | b')' | b'[' | b']' | b'{' | b'}' | b'+' | b'-' | b'*' | b'/' | b'%' | b'&' | b'|' | b'^' | b'!' | b'<' | b'>'
+        b';' | b':'
+            | b','
+            | b'='
+            | b'('
+            | b')'
+            | b'['
+            | b']'
+            | b'{'
+            | b'}'
+            | b'+'
+            | b'-'
+            | b'*'
+            | b'/'
+            | b'%'
+            | b'&'
+            | b'|'
+            | b'^'
+            | b'!'
+            | b'<'
+            | b'>'
     )
 }
 
@@ -125,7 +144,10 @@ fn is_double(a: u8, b: u8) -> bool
     ensures { result ≡ spec.is_double a b }
 {
     match b {
-        b'=' => matches!(a, b'~' | b'+' | b'-' | b'*' | b'&' | b'|' | b'^' | b'=' | b'!' | b'<' | b'>'),
+        b'=' => matches!(
+            a,
+            b'~' | b'+' | b'-' | b'*' | b'&' | b'|' | b'^' | b'=' | b'!' | b'<' | b'>'
+        ),
         b'>' => a == b'-',
         b'.' => a == b'.',
         b'&' => a == b'&',
@@ -239,9 +261,12 @@ fn kind_of(text: &[u8]) -> Option<TokenKind>
     Some(TokenKind::Symbol)
 }
 
+// `first_token` by the steps that it takes.
 #[tactic(auto, unfolding(crate::specs::Scanning::scan))]
-fn scan(bytes: &[u8]) -> Result<Option<Token>, LexFault>
-    ensures { result ≡ spec.scan bytes.now }
+pub fn scan(bytes: &[u8]) -> Result<Option<Token>, LexFault>
+    ensures value { result ≡ spec.scan bytes.now }
+    ensures ordered { IfOk result (λ found. IfSome found (λ t. t.start ≤ t.end)) }
+    ensures within { IfOk result (λ found. IfSome found (λ t. t.end ≤ length bytes.now)) }
 {
     let start = blank_len(bytes);
     let text = &bytes[start..];
@@ -259,5 +284,49 @@ fn scan(bytes: &[u8]) -> Result<Option<Token>, LexFault>
             end: start + len,
         })),
         None => Err(LexFault::Number(start)),
+    }
+}
+
+/// The first token of a text. `None` comes exactly where white space and comments are all there is. A fault comes where
+/// behind these a byte begins no token, or where a number above 18446744073709551615 stands.
+pub fn first_token(bytes: &[u8]) -> Result<Option<Token>, LexFault>
+    ensures token { IfOk result (λ found. IfSome found (lexical.IsFirstToken bytes.now)) }
+    ensures none { (result ≡ Ok None) ↔ lexical.IsBlank bytes.now }
+    ensures fault { IfErr result (lexical.IsLexFault bytes.now) }
+{
+    scan(bytes)
+}
+
+#[cfg(test)]
+mod tests {
+    use super::*;
+
+    #[test]
+    fn takes_the_longest_token(rt: HostRuntime) {
+        let table: [(&[u8], Result<Option<(TokenKind, usize, usize)>, LexFault>); 16] = [
+            (b"", Ok(None)),
+            (b" \t\r\n# to the end", Ok(None)),
+            (b"# one\n two", Ok(Some((TokenKind::Name, 7, 10)))),
+            (b"par_unseq", Ok(Some((TokenKind::Word, 0, 9)))),
+            (b"par_unseqs", Ok(Some((TokenKind::Name, 0, 10)))),
+            (b"_a1-", Ok(Some((TokenKind::Name, 0, 3)))),
+            (b"12ab", Ok(Some((TokenKind::Number(12), 0, 2)))),
+            (
+                b"0018446744073709551615",
+                Ok(Some((TokenKind::Number(18_446_744_073_709_551_615), 0, 22))),
+            ),
+            (b" 18446744073709551616", Err(LexFault::Number(1))),
+            (b"->", Ok(Some((TokenKind::Symbol, 0, 2)))),
+            (b"- >", Ok(Some((TokenKind::Symbol, 0, 1)))),
+            (b"..1", Ok(Some((TokenKind::Symbol, 0, 2)))),
+            (b".", Err(LexFault::Byte(0))),
+            (b" ~", Err(LexFault::Byte(1))),
+            (b"&&&", Ok(Some((TokenKind::Symbol, 0, 2)))),
+            (b"\xff", Err(LexFault::Byte(0))),
+        ];
+        for (text, wanted) in table {
+            let found = first_token(text).map(|token| token.map(|t| (t.kind, t.start, t.end)));
+            assert_eq!(rt; found, wanted);
+        }
     }
 }
