@@ -1,6 +1,6 @@
 //! The first scripts as data: arrays of `u64` with their cells listed, sums under `seq` by `plus`, and printing.
 
-use crate::name::Name;
+use pts_tree::Name;
 use sqlite_items::Items;
 
 /// A script's arrays and statements, each list in the order of the text.

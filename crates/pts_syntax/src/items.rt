@@ -7,7 +7,7 @@ ghost use Rattle.pts_syntax.specs.Reading as spec;
 ghost use Rattle.pts_syntax.specs.Reading.{Gives};
 
 use crate::first::{First, FirstArray, FirstStatement};
-use crate::name::Name;
+use pts_tree::Name;
 use crate::reader::{Stop, cells, expect, expect_all, name, next, number};
 use sqlite_items::Items;
 use std::alloc::{AllocError, Global};

@@ -3,10 +3,9 @@
 
 mod first;
 mod items;
-mod name;
 mod parse;
 mod reader;
 
 pub use first::{First, FirstArray, FirstFault, FirstStatement};
-pub use name::Name;
+pub use pts_tree::Name;
 pub use parse::{one_script, parse_first};
