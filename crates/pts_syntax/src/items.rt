@@ -7,8 +7,8 @@ ghost use Rattle.pts_syntax.specs.Reading as spec;
 ghost use Rattle.pts_syntax.specs.Reading.{Gives};
 
 use crate::first::{First, FirstArray, FirstStatement};
-use pts_tree::Name;
 use crate::reader::{Stop, cells, expect, expect_all, name, next, number};
+use pts_tree::Name;
 use sqlite_items::Items;
 use std::alloc::{AllocError, Global};
 use std::collections::BTreeMap;

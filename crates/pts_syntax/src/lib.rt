@@ -7,5 +7,5 @@ mod parse;
 mod reader;
 
 pub use first::{First, FirstArray, FirstFault, FirstStatement};
-pub use pts_tree::Name;
 pub use parse::{one_script, parse_first};
+pub use pts_tree::Name;
