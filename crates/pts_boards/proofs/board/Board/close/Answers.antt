@@ -1,0 +1,13 @@
+use Rattle.std.proofs.Common.{sym, ap, ◌∙◌, subst}
+use Rattle.pts_boards.specs.declared.board.Terms.{Terms}
+use Rattle.pts_boards.specs.Rule.{Ends}
+use Rattle.pts_boards.proofs.Rule.{closes}
+use Rattle.pts_boards.proofs.board.Board.close.Goals as goal
+
+pub returns : goal.returns
+returns g c =
+    let sort = g.K.Knowledge.sort in
+    let seat = c.args.seat in
+    let whole = c.requires.whole ∙ ap (λ (t : Terms). t.shares) (sym c.args.self.same_terms) in
+    let ends = closes sort g.K.Knowledge.lawful c.args.self.table.shared.key seat.id seat.me.0 _ _ c.word-word.result whole c.close_with-closed.ensures.values.2 c.word-word.ensures in
+    subst (λ (t : Terms). Ends sort t seat.me.0.known c.word-word.result) c.args.self.same_terms ends
