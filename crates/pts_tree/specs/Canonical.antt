@@ -1,5 +1,6 @@
 -- The canonical bytes of a script.
 use Rattle.std.specs.Prelude.{ℕ, List, [], ◌∷◌, ◌++◌, flat_map, decimal}
+use Rattle.pts_tree.specs.declared.script.Item.{Item}
 use Rattle.pts_tree.specs.declared.script.Script.{Script}
 use Rattle.pts_tree.specs.Marks.{text_of}
 use Rattle.pts_tree.specs.Signs.{Sign, Mark, Name, Number}
@@ -27,6 +28,10 @@ spaced (t ∷ u ∷ ts) = sign_bytes t ++ space ∷ spaced (u ∷ ts)
 abbrev pub line : List Sign → List ℕ
 line ts = spaced ts ++ line_feed ∷ []
 
+-- the line of an item
+abbrev pub item_line : Item → List ℕ
+item_line x = line (item x [])
+
 -- a line for the header and one for each item
 abbrev pub canonical : Script → List ℕ
-canonical x = line (header x.version []) ++ flat_map (λ i. line (item i [])) x.items
+canonical x = line (header x.version []) ++ flat_map item_line x.items

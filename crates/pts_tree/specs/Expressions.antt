@@ -1,6 +1,7 @@
 -- Which signs spell an expression, and which expressions the grammar has.
 use Rattle.std.specs.Prelude.{ℕ, Bool, true, false, ◌&&◌, ◌==◌, nat_lt, nat_le, is_some, Option, Some, None, List, [], ◌∷◌}
 use Rattle.std.specs.List.{list_all}
+use Rattle.pts_types.specs.declared.value.Kind.{Kind}
 use Rattle.pts_types.specs.declared.operation.ScalarOp.{ScalarOp}
 use Rattle.pts_types.specs.declared.operation.ScalarOp.TheVariants as ops
 use Rattle.pts_tree.specs.declared.mark.Mark as mark
@@ -118,3 +119,37 @@ expr x = (shape x).text
 
 abbrev pub expr_allowed : Expr → Bool
 expr_allowed x = (shape x).allowed
+
+-- an operator of a chain and what stands on its right
+abbrev pub chain_part : ChainPart → Text
+chain_part x tail = optional word (chain_mark x.op) (expr x.operand tail)
+
+-- a part between two symbols
+abbrev pub enclosed : mark.Mark → Text → mark.Mark → Text
+enclosed before text after tail = Mark before ∷ text (Mark after ∷ tail)
+
+-- a symbol and an expression
+abbrev pub next_expr : mark.Mark → Expr → Text
+next_expr between x tail = Mark between ∷ expr x tail
+
+abbrev pub throw : ℕ → Text
+throw n tail = Mark m.Throw ∷ Number n ∷ tail
+
+-- a call of a function
+abbrev pub function_call : List ℕ → List Expr → Text
+function_call text xs tail = Name text ∷ Mark m.OpenParen ∷ separated m.Comma expr xs (Mark m.CloseParen ∷ tail)
+
+abbrev pub element : List ℕ → Expr → Text
+element text x tail = Name text ∷ enclosed m.OpenBracket (expr x) m.CloseBracket tail
+
+abbrev pub convert : Kind → Expr → Text
+convert to x tail = Mark (kind to) ∷ enclosed m.OpenParen (expr x) m.CloseParen tail
+
+abbrev pub chain : Expr → List ChainPart → Text
+chain x parts tail = expr x (each chain_part parts tail)
+
+abbrev pub compare : ScalarOp → Expr → Expr → Text
+compare op x y tail = expr x (optional word (compare_mark op) (expr y tail))
+
+abbrev pub if_else : Expr → Expr → Expr → Text
+if_else x y z tail = enclosed m.If (expr x) m.Then (expr y (next_expr m.Else z tail))

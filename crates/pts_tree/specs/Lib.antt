@@ -7,3 +7,4 @@ pub mod Expressions
 pub mod Statements
 pub mod Scripts
 pub mod Canonical
+pub mod Printing

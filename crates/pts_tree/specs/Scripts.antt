@@ -2,6 +2,8 @@
 use Rattle.std.specs.Prelude.{◌≡◌, ℕ, Bool, true, false, ◌&&◌, ◌==◌, List, [], ◌∷◌, ◌++◌, flat_map, decimal}
 use Rattle.std.specs.List.{list_all}
 use Rattle.pts_tree.specs.declared.mark.Mark.TheVariants as m
+use Rattle.pts_tree.specs.declared.sum.Sum.{Sum}
+use Rattle.pts_tree.specs.declared.sum.Val.{Val}
 use Rattle.pts_tree.specs.declared.script.ConstDecl.{ConstDecl}
 use Rattle.pts_tree.specs.declared.script.ArrayDecl.{ArrayDecl}
 use Rattle.pts_tree.specs.declared.script.FunctionDecl.{FunctionDecl}
@@ -21,16 +23,36 @@ use Rattle.pts_tree.specs.Statements.{loop, loop_allowed, block, whole_block}
 abbrev pub const_decl : ConstDecl → Text
 const_decl x tail = Mark m.Const ∷ Name x.name ∷ Mark m.Equal ∷ sum x.value (Mark m.Semicolon ∷ tail)
 
+-- values with a comma between any two
+abbrev pub vals : List Val → Text
+vals xs tail = separated m.Comma val xs tail
+
+abbrev pub list : List Val → Text
+list xs tail = Mark m.List ∷ vals xs tail
+
+abbrev pub fill : Val → Text
+fill x tail = Mark m.Fill ∷ val x tail
+
+abbrev pub iota : Sum → Sum → Text
+iota x y tail = Mark m.Iota ∷ sum x (Mark m.Step ∷ sum y tail)
+
+abbrev pub mix : Sum → Text
+mix x tail = Mark m.Mix ∷ sum x tail
+
 abbrev pub start : Start → Text
-start (starts.List xs) tail = Mark m.List ∷ separated m.Comma val xs tail
-start (starts.Fill x) tail = Mark m.Fill ∷ val x tail
-start (starts.Iota x y) tail = Mark m.Iota ∷ sum x (Mark m.Step ∷ sum y tail)
-start (starts.Mix x) tail = Mark m.Mix ∷ sum x tail
+start (starts.List xs) tail = list xs tail
+start (starts.Fill x) tail = fill x tail
+start (starts.Iota x y) tail = iota x y tail
+start (starts.Mix x) tail = mix x tail
 
 -- a list has at least one value
 abbrev pub start_allowed : Start → Bool
 start_allowed (starts.List xs) = is_filled xs
 start_allowed _ = true
+
+-- a comma and a value
+abbrev pub next_val : Val → Text
+next_val x tail = Mark m.Comma ∷ val x tail
 
 abbrev pub array_decl : ArrayDecl → Text
 array_decl x tail =
@@ -39,12 +61,23 @@ array_decl x tail =
 abbrev pub param : Param → Text
 param x tail = Name x.name ∷ Mark m.Colon ∷ Mark (kind x.kind) ∷ tail
 
+-- a comma and a parameter
+abbrev pub next_param : Param → Text
+next_param x tail = Mark m.Comma ∷ param x tail
+
+-- parameters with a comma between any two
+abbrev pub params : List Param → Text
+params xs tail = separated m.Comma param xs tail
+
 abbrev pub function_decl : FunctionDecl → Text
 function_decl x tail =
-    Mark m.Function ∷ Name x.name ∷ Mark m.OpenParen ∷ separated m.Comma param x.params
+    Mark m.Function ∷ Name x.name ∷ Mark m.OpenParen ∷ params x.params
     (Mark m.CloseParen ∷ Mark m.Arrow ∷ Mark (kind x.kind) ∷ Mark m.Equal ∷ expr x.body (Mark m.Semicolon ∷ tail))
 
 -- ---- items and scripts
+
+abbrev pub print : List ℕ → Text
+print text tail = Mark m.Print ∷ Name text ∷ Mark m.Semicolon ∷ tail
 
 abbrev pub item : Item → Text
 item (items.Const x) tail = const_decl x tail
@@ -53,7 +86,7 @@ item (items.Function x) tail = function_decl x tail
 item (items.Call x) tail = call x tail
 item (items.Loop x) tail = loop x tail
 item (items.Block x) tail = block x tail
-item (items.Print text) tail = Mark m.Print ∷ Name text ∷ Mark m.Semicolon ∷ tail
+item (items.Print text) tail = print text tail
 
 abbrev pub item_allowed : Item → Bool
 item_allowed (items.Const x) = true

@@ -53,6 +53,10 @@ word n tail = Mark n ∷ tail
 abbrev pub name : List ℕ → Text
 name text tail = Name text ∷ tail
 
+-- NUMBER
+abbrev pub number : ℕ → Text
+number n tail = Number n ∷ tail
+
 -- at least one
 abbrev pub is_filled : {A : Type 0} → List A → Bool
 is_filled [] = false

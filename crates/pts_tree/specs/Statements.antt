@@ -1,5 +1,5 @@
 -- Which signs spell a statement of a loop or of a task block, and which statements the grammar has.
-use Rattle.std.specs.Prelude.{Bool, true, false, ◌&&◌, is_some, Option, Some, None, List, [], ◌∷◌}
+use Rattle.std.specs.Prelude.{ℕ, Bool, true, false, ◌&&◌, is_some, Option, Some, None, List, [], ◌∷◌}
 use Rattle.std.specs.List.{list_all}
 use Rattle.pts_types.specs.declared.operation.ScalarOp.{ScalarOp}
 use Rattle.pts_types.specs.declared.operation.ScalarOp.TheVariants as ops
@@ -7,6 +7,8 @@ use Rattle.pts_tree.specs.declared.mark.Mark as mark
 use Rattle.pts_tree.specs.declared.mark.Mark.TheVariants as m
 use Rattle.pts_tree.specs.declared.sum.Sum.{Sum}
 use Rattle.pts_tree.specs.declared.sum.Val.{Val}
+use Rattle.pts_tree.specs.declared.sum.Cell.{Cell}
+use Rattle.pts_tree.specs.declared.expr.Expr.{Expr}
 use Rattle.pts_tree.specs.declared.expr.Place.{Place}
 use Rattle.pts_tree.specs.declared.loops.Loop.{Loop}
 use Rattle.pts_tree.specs.declared.loops.Clause.{Clause}
@@ -24,7 +26,7 @@ use Rattle.pts_tree.specs.declared.block.TaskStmt.TheFolds.{fold-TaskStmt, fold-
 use Rattle.pts_tree.specs.declared.block.Block.{Block}
 use Rattle.pts_tree.specs.Signs.{Sign, Mark, Name, Number}
 use Rattle.pts_tree.specs.Spelling.{Text, each, optional, word, kind, policy, sum, val, cell, op, op_allowed, call, call_allowed, if_there}
-use Rattle.pts_tree.specs.Expressions.{expr, expr_allowed}
+use Rattle.pts_tree.specs.Expressions.{expr, expr_allowed, throw}
 
 -- what spells a statement, and whether the grammar has it
 pub record Phrase : Type 0 where
@@ -55,16 +57,32 @@ upd_mark ops.BitOr = Some m.BarEqual
 upd_mark ops.BitXor = Some m.CaretEqual
 upd_mark _ = None
 
+-- a value that is given to what stands before the sign
+abbrev pub value : mark.Mark → Expr → Text
+value sign x tail = Mark sign ∷ expr x (Mark m.Semicolon ∷ tail)
+
+abbrev pub assign : Place → Expr → Text
+assign at x tail = place at (value m.Equal x tail)
+
+abbrev pub let_name : List ℕ → Expr → Text
+let_name text x tail = Mark m.Let ∷ Name text ∷ value m.Equal x tail
+
+abbrev pub combine : List ℕ → Expr → Text
+combine text x tail = Name text ∷ value m.TildeEqual x tail
+
+abbrev pub ordered : Place → ScalarOp → Expr → Text
+ordered at o x tail = Mark m.Ordered ∷ place at (optional word (upd_mark o) (expr x (Mark m.Semicolon ∷ tail)))
+
 abbrev pub else_part : List Phrase → Text
 else_part xs tail = Mark m.Else ∷ braced xs tail
 
 abbrev pub phrase_step : BodyStmt-F Phrase → Phrase
-phrase_step (BodyStmt-F.Assign at x) = record { text = λ tail. place at (Mark m.Equal ∷ expr x (Mark m.Semicolon ∷ tail)); allowed = expr_allowed at.index && expr_allowed x }
-phrase_step (BodyStmt-F.Let text x) = record { text = λ tail. Mark m.Let ∷ Name text ∷ Mark m.Equal ∷ expr x (Mark m.Semicolon ∷ tail); allowed = expr_allowed x }
-phrase_step (BodyStmt-F.Combine text x) = record { text = λ tail. Name text ∷ Mark m.TildeEqual ∷ expr x (Mark m.Semicolon ∷ tail); allowed = expr_allowed x }
+phrase_step (BodyStmt-F.Assign at x) = record { text = assign at x; allowed = expr_allowed at.index && expr_allowed x }
+phrase_step (BodyStmt-F.Let text x) = record { text = let_name text x; allowed = expr_allowed x }
+phrase_step (BodyStmt-F.Combine text x) = record { text = combine text x; allowed = expr_allowed x }
 phrase_step (BodyStmt-F.If x xs ys) = record { text = λ tail. Mark m.If ∷ expr x (braced xs (optional else_part ys tail)); allowed = expr_allowed x && list_all phrase_allowed xs && if_there (list_all phrase_allowed) ys }
 phrase_step (BodyStmt-F.VecOff xs) = record { text = λ tail. Mark m.VecOff ∷ braced xs tail; allowed = list_all phrase_allowed xs }
-phrase_step (BodyStmt-F.Ordered at o x) = record { text = λ tail. Mark m.Ordered ∷ place at (optional word (upd_mark o) (expr x (Mark m.Semicolon ∷ tail))); allowed = is_some (upd_mark o) && expr_allowed at.index && expr_allowed x }
+phrase_step (BodyStmt-F.Ordered at o x) = record { text = ordered at o x; allowed = is_some (upd_mark o) && expr_allowed at.index && expr_allowed x }
 
 unfoldable pub phrase : BodyStmt → Phrase
 phrase = fold-BodyStmt Phrase phrase_step
@@ -74,6 +92,20 @@ bstmt x = (phrase x).text
 
 abbrev pub bstmt_allowed : BodyStmt → Bool
 bstmt_allowed x = (phrase x).allowed
+
+-- statements of a body between braces
+abbrev pub body : List BodyStmt → Text
+body xs tail = Mark m.OpenBrace ∷ each bstmt xs (Mark m.CloseBrace ∷ tail)
+
+abbrev pub else_body : List BodyStmt → Text
+else_body xs tail = Mark m.Else ∷ body xs tail
+
+-- a test, its branch, and the other one where there is one
+abbrev pub if_stmt : Expr → List BodyStmt → Option (List BodyStmt) → Text
+if_stmt x xs ys tail = Mark m.If ∷ expr x (body xs (optional else_body ys tail))
+
+abbrev pub vec_off : List BodyStmt → Text
+vec_off xs tail = Mark m.VecOff ∷ body xs tail
 
 -- ---- loops
 
@@ -104,7 +136,7 @@ clause_allowed (clauses.Induct x) = true
 abbrev pub loop : Loop → Text
 loop x tail =
     Mark m.ForLoop ∷ Mark (policy x.policy) ∷ Name x.index ∷ Mark m.Equal ∷ sum x.low (Mark m.To ∷ sum x.high (optional step_part x.step
-    (each clause x.clauses (Mark m.OpenBrace ∷ each bstmt x.body (Mark m.CloseBrace ∷ tail)))))
+    (each clause x.clauses (body x.body tail))))
 
 abbrev pub loop_allowed : Loop → Bool
 loop_allowed x = list_all clause_allowed x.clauses && list_all bstmt_allowed x.body
@@ -129,11 +161,20 @@ run_allowed x = x.in_run && x.allowed
 abbrev pub tasks : List Task → Text
 tasks xs tail = Mark m.OpenBrace ∷ each task_text xs (Mark m.CloseBrace ∷ tail)
 
+abbrev pub wait : Text
+wait tail = Mark m.Wait ∷ Mark m.Semicolon ∷ tail
+
+abbrev pub throw_stmt : ℕ → Text
+throw_stmt n tail = throw n (Mark m.Semicolon ∷ tail)
+
+abbrev pub assign_cell : Cell → Expr → Text
+assign_cell at x tail = cell at (value m.Equal x tail)
+
 abbrev pub task_step : TaskStmt-F Task Phrase → Task
 task_step (TaskStmt-F.Run xs) = record { text = λ tail. Mark m.Run ∷ tasks xs tail; allowed = list_all run_allowed xs; in_run = false }
-task_step TaskStmt-F.Wait = record { text = λ tail. Mark m.Wait ∷ Mark m.Semicolon ∷ tail; allowed = true; in_run = false }
-task_step (TaskStmt-F.Throw n) = record { text = λ tail. Mark m.Throw ∷ Number n ∷ Mark m.Semicolon ∷ tail; allowed = true; in_run = true }
-task_step (TaskStmt-F.Assign at x) = record { text = λ tail. cell at (Mark m.Equal ∷ expr x (Mark m.Semicolon ∷ tail)); allowed = expr_allowed x; in_run = true }
+task_step TaskStmt-F.Wait = record { text = wait; allowed = true; in_run = false }
+task_step (TaskStmt-F.Throw n) = record { text = throw_stmt n; allowed = true; in_run = true }
+task_step (TaskStmt-F.Assign at x) = record { text = assign_cell at x; allowed = expr_allowed x; in_run = true }
 task_step (TaskStmt-F.Call x) = record { text = call x; allowed = call_allowed x; in_run = true }
 task_step (TaskStmt-F.Loop x) = record { text = loop x; allowed = loop_allowed x; in_run = true }
 task_step (TaskStmt-F.Block x) = record { text = x.text; allowed = x.allowed; in_run = true }
@@ -152,3 +193,13 @@ tstmt x = (task x).text
 
 abbrev pub block : Block → Text
 block x = (whole_block x).text
+
+-- statements of a block or of a `run` between braces
+abbrev pub task_body : List TaskStmt → Text
+task_body xs tail = Mark m.OpenBrace ∷ each tstmt xs (Mark m.CloseBrace ∷ tail)
+
+abbrev pub run : List TaskStmt → Text
+run xs tail = Mark m.Run ∷ task_body xs tail
+
+abbrev pub task_block : List TaskStmt → Text
+task_block xs tail = Mark m.TaskBlock ∷ task_body xs tail
