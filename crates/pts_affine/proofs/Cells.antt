@@ -2,12 +2,13 @@
 use Rattle.std.proofs.Common.{◌≡◌, ℕ, zero, suc, ◌+◌, ◌-◌, ◌*◌, ◌^◌, ◌<◌, ◌≤◌, ℤ, pos, negsuc, ◌+ℤ◌, ◌-ℤ◌, ◌*ℤ◌, neg_ℤ, inl, inr, refl, sym, ap, ◌∙◌, arith}
 use Rattle.std.specs.Prelude.{◌↔◌, ◌⊎◌, ◌≤ℤ◌, ◌<ℤ◌, unsigned_abs}
 use Rattle.std.proofs.lemmas.Int.{ints}
+use Rattle.std.proofs.Math.Nat.{mul-le-mul_left}
 use Rattle.pts_affine.specs.declared.line.Line.{Line}
-use Rattle.pts_affine.specs.Lines.{IsBounded, cell}
+use Rattle.pts_affine.specs.Lines.{IsBounded, IsCell, cell}
 
 -- ---- what bounds a line's factor and its first cell
 
-first-is : (c d : ℤ) → c *ℤ pos 0 +ℤ d ≡ d
+pub first-is : (c d : ℤ) → c *ℤ pos 0 +ℤ d ≡ d
 first-is (pos a) d = omega (arith, ints)
 first-is (negsuc a) d = omega (arith, ints)
 
@@ -84,3 +85,20 @@ pub turned_is : (a b u v p q m : ℕ) → q < m → (a * p + b * q + u ≡ v) �
 turned_is a b u v p q m h =
     let times = ap (λ n. b * n) (let e : m - 1 ≡ (m - 1 - q) + q = omega arith in e) in
     (λ e. omega (arith, times), λ e. omega (arith, times))
+
+-- ---- a line between its ends
+
+between : (c d : ℤ) (p last : ℕ) → p ≤ last → IsCell (c *ℤ pos 0 +ℤ d) → IsCell (c *ℤ pos last +ℤ d) → IsCell (c *ℤ pos p +ℤ d)
+between (pos a) d p last h low high =
+    let more = mul-le-mul_left a h in
+    (omega (arith, ints, low, high, more), omega (arith, ints, low, high, more))
+between (negsuc a) d p last h low high =
+    let more = mul-le-mul_left (suc a) h in
+    (omega (arith, ints, low, high, more), omega (arith, ints, low, high, more))
+
+pub bounded-by-ends : (line : Line) → line.n ≤ 2 ^ 20 → (line.n ≤ 1 → line.c ≡ pos 0) → IsCell (cell line 0) → IsCell (cell line (line.n - 1)) → IsBounded line
+bounded-by-ends line few level first last = record {
+  cells = λ p h. between line.c line.d p (line.n - 1) (omega arith) first last;
+  positions = few;
+  level = level;
+}

@@ -6,9 +6,13 @@ use Rattle.pts_affine.specs.declared.line.Line.{Line}
 abbrev pub cell : Line → ℕ → ℤ
 cell line p = line.c *ℤ pos p +ℤ line.d
 
+-- one of the first 2^20 cells
+abbrev pub IsCell : ℤ → Type 0
+IsCell z = (pos 0 ≤ℤ z) × (z <ℤ pos (2 ^ 20))
+
 -- at most 2^20 positions, each at one of the first 2^20 cells, and no slope where there is no second position
 pub record IsBounded (line : Line) : Type 0 where
-  pub cells : (p : ℕ) → p < line.n → (pos 0 ≤ℤ cell line p) × (cell line p <ℤ pos (2 ^ 20))
+  pub cells : (p : ℕ) → p < line.n → IsCell (cell line p)
   pub positions : line.n ≤ 2 ^ 20
   pub level : line.n ≤ 1 → line.c ≡ pos 0
 

@@ -7,26 +7,21 @@ use crate::{Line, meet, meet_after};
 
 const CELLS: i64 = 1_048_576;
 
-// The line, where it has at most 2^20 positions and each of them has one of the first 2^20 cells.
+// The line, where it is bounded; a line of at most one position gets the factor 0.
 fn bounded(c: i64, d: i64, n: u32) -> Option<Line>
     ensures { IfSome result IsBounded }
 {
-    if n <= 1 {
-        return if c == 0 && 0 <= d && d < CELLS {
-            Some(Line { c, d, n })
-        } else {
-            None
-        };
-    }
-    if 1_048_576 < n || d < 0 || CELLS <= d || c <= -CELLS || CELLS <= c {
+    if n > 1_048_576 || d < 0 || d >= CELLS {
         return None;
     }
-    let last = c * (i64::from(n) - 1) + d;
-    if last < 0 || CELLS <= last {
-        None
-    } else {
-        Some(Line { c, d, n })
+    if n <= 1 {
+        return Some(Line { c: 0, d, n });
     }
+    let last = c.checked_mul(i64::from(n - 1))?.checked_add(d)?;
+    if last < 0 || last >= CELLS {
+        return None;
+    }
+    Some(Line { c, d, n })
 }
 
 fn cell(line: Line, p: u32) -> i64 {
