@@ -6,7 +6,6 @@ use Rattle.pts_tree.specs.Spelling.{Text, word, optional}
 use Rattle.pts_tree.specs.Printing.{Puts}
 
 infixr 60 ◌▸◌
-
 -- one part and then another
 pub ◌▸◌ : {f g : Text} {a b c : List ℕ} → Puts f a b → Puts g b c → Puts (λ tail. f (g tail)) a c
 ◌▸◌ {f} {g} p q = record { puts = λ tail. q.puts tail ∙ p.puts (g tail) }

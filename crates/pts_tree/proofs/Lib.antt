@@ -5,3 +5,4 @@ pub mod Shapes
 pub mod Phrases
 pub mod Tasks
 pub mod Lines
+pub mod Texts

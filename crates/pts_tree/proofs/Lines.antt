@@ -58,10 +58,10 @@ lined_one xs at before now after x w within is e =
     let split : drop at xs ≡ x ∷ drop (at + 1) xs = drop_more xs at x within ∙ ap (λ y. y ∷ drop (at + 1) xs) (sym is) in
     record {
       lined =
-        ap (λ bs. bs ++ flat_map item_line (drop (at + 1) xs)) e
-        ∙ append_assoc now (item_line x) (flat_map item_line (drop (at + 1) xs))
-        ∙ ap (λ zs. now ++ flat_map item_line zs) (sym split)
-        ∙ w.lined
+          ap (λ bs. bs ++ flat_map item_line (drop (at + 1) xs)) e
+          ∙ append_assoc now (item_line x) (flat_map item_line (drop (at + 1) xs))
+          ∙ ap (λ zs. now ++ flat_map item_line zs) (sym split)
+          ∙ w.lined;
     }
 
 pub lined_all : (xs : List Item) (at : ℕ) (before after : List ℕ) → Lined xs at before after → length xs ≤ at → after ≡ before ++ flat_map item_line xs

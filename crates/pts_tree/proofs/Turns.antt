@@ -18,9 +18,9 @@ written_one {A} spell xs from at before now after x w within is p =
     let split : drop at xs ≡ x ∷ drop (at + 1) xs = drop_more xs at x within ∙ ap (λ y. y ∷ drop (at + 1) xs) (sym is) in
     record {
       written = λ tail.
-        p.puts (each spell (drop (at + 1) xs) tail)
-        ∙ ap (λ zs. now ++ ended (each spell zs tail)) (sym split)
-        ∙ w.written tail
+          p.puts (each spell (drop (at + 1) xs) tail)
+          ∙ ap (λ zs. now ++ ended (each spell zs tail)) (sym split)
+          ∙ w.written tail;
     }
 
 pub written_all : {A : Type 0} (spell : A → Text) (xs : List A) (from at : ℕ) (before after : List ℕ)

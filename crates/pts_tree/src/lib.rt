@@ -11,6 +11,8 @@ mod printing;
 mod script;
 mod sign;
 mod sum;
+#[cfg(test)]
+mod tests;
 
 pub use block::{Block, TaskStmt};
 pub use call::{Call, CallForm, Op};

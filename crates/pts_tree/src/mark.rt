@@ -1,6 +1,6 @@
 //! The words and symbols of the language.
 
-ghost use Rattle.std.specs.Prelude.{◌≡◌};
+ghost use Rattle.std.specs.Prelude.{◌≡◌, ◌≢◌, IfSome, IfNone};
 ghost use Rattle.pts_tree.specs.Marks.{text_of};
 
 /// A word or symbol of the language.
@@ -134,6 +134,100 @@ pub enum Mark {
     Greater,
 }
 
+// In the order of their declaration.
+const MARKS: [Mark; 90] = [
+    Mark::Pts,
+    Mark::Const,
+    Mark::Array,
+    Mark::Function,
+    Mark::List,
+    Mark::Fill,
+    Mark::Iota,
+    Mark::Step,
+    Mark::Mix,
+    Mark::I64,
+    Mark::U64,
+    Mark::Bool,
+    Mark::True,
+    Mark::False,
+    Mark::If,
+    Mark::Then,
+    Mark::Else,
+    Mark::Throw,
+    Mark::Seq,
+    Mark::Par,
+    Mark::ParUnseq,
+    Mark::Unseq,
+    Mark::Vector,
+    Mark::ForEach,
+    Mark::Transform,
+    Mark::FindIf,
+    Mark::CountIf,
+    Mark::Reduce,
+    Mark::TransformReduce,
+    Mark::InclusiveScan,
+    Mark::ExclusiveScan,
+    Mark::TransformInclusiveScan,
+    Mark::TransformExclusiveScan,
+    Mark::ForLoop,
+    Mark::TaskBlock,
+    Mark::Print,
+    Mark::Init,
+    Mark::Into,
+    Mark::To,
+    Mark::As,
+    Mark::Induct,
+    Mark::Identity,
+    Mark::Let,
+    Mark::VecOff,
+    Mark::Ordered,
+    Mark::Run,
+    Mark::Wait,
+    Mark::Plus,
+    Mark::Multiplies,
+    Mark::BitAnd,
+    Mark::BitOr,
+    Mark::BitXor,
+    Mark::Min,
+    Mark::Max,
+    Mark::Arrow,
+    Mark::Range,
+    Mark::TildeEqual,
+    Mark::PlusEqual,
+    Mark::MinusEqual,
+    Mark::StarEqual,
+    Mark::AmpersandEqual,
+    Mark::BarEqual,
+    Mark::CaretEqual,
+    Mark::EqualEqual,
+    Mark::ExclamationEqual,
+    Mark::LessEqual,
+    Mark::GreaterEqual,
+    Mark::AmpersandAmpersand,
+    Mark::BarBar,
+    Mark::Semicolon,
+    Mark::Colon,
+    Mark::Comma,
+    Mark::Equal,
+    Mark::OpenParen,
+    Mark::CloseParen,
+    Mark::OpenBracket,
+    Mark::CloseBracket,
+    Mark::OpenBrace,
+    Mark::CloseBrace,
+    Mark::PlusSign,
+    Mark::MinusSign,
+    Mark::Star,
+    Mark::Slash,
+    Mark::Percent,
+    Mark::Ampersand,
+    Mark::Bar,
+    Mark::Caret,
+    Mark::Exclamation,
+    Mark::Less,
+    Mark::Greater,
+];
+
 impl Mark {
     /// How a script spells it.
     #[tactic(auto, unfolding(crate::specs::Marks::text_of))]
@@ -233,4 +327,22 @@ impl Mark {
             Mark::Greater => b">",
         }
     }
+
+    /// The word or symbol with this text, where there is one.
+    pub fn of_text(text: &[u8]) -> Option<Mark>
+        ensures some { IfSome result (λ m. text.now ≡ text_of m) }
+        ensures none { IfNone result ((m : Mark) → text.now ≢ text_of m) }
+    {
+        for mark in MARKS {
+            if text == mark.text() {
+                return Some(mark);
+            }
+        }
+        None
+    }
 }
+
+/// A law: no text is that of two words or symbols.
+pub fn one_mark()
+    ensures { (one other : Mark) → text_of one ≡ text_of other → one ≡ other }
+{}

@@ -1,8 +1,8 @@
 //! Writing the signs of a script, each with a space behind it.
 
-ghost use Rattle.std.specs.Prelude.{◌≡◌, ◌<◌, ◌++◌, ◌∷◌, [], ℕ, List, flat_map, length, true, IfOk, OnOk};
+ghost use Rattle.std.specs.Prelude.{◌≡◌, ◌<◌, ◌++◌, ◌∷◌, [], ℕ, List, flat_map, length, IfOk, OnOk};
 ghost use Rattle.pts_tree.specs.Canonical.{canonical, item_line, line, line_feed, space};
-ghost use Rattle.pts_tree.specs.Scripts.{header, script_allowed};
+ghost use Rattle.pts_tree.specs.Scripts.{header};
 ghost use Rattle.pts_tree.specs.Spelling as spec;
 ghost use Rattle.pts_tree.specs.Printing.{Puts};
 
@@ -90,8 +90,8 @@ fn script_bytes(alloc: Global, script: &Script) -> Result<Vec<u8>, AllocError>
 }
 
 /// The canonical spelling of a script: a line for the header and one for each item, with one space between any two signs.
+/// A tree that the grammar does not have is written in the same way, and its text spells no script.
 pub fn print(alloc: Global, script: &Script) -> Result<Vec<u8>, NoMemory>
-    requires { script_allowed script.now ≡ true }
     ensures { IfOk result (λ bytes. bytes.items ≡ canonical script.now) }
 {
     script_bytes(alloc, script).map_err(|_| NoMemory)

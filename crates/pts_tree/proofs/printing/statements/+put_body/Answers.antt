@@ -30,6 +30,6 @@ put_body_stmt-returns-in_ok-put_else-in-If z c =
     let xs = c.as_slice.result.now in
     let ys = c.as_slice-in-Some.result.now in
     let is : c.args.stmt.now ≡ b.If x xs (Some ys) =
-        c.in-If.is ∙ (λ i. b.If x (sym c.as_slice.ensures i) (c.in-Some.is i)) ∙ (λ i. b.If x xs (Some (sym c.as_slice-in-Some.ensures i))) in
+    c.in-If.is ∙ (λ i. b.If x (sym c.as_slice.ensures i) (c.in-Some.is i)) ∙ (λ i. b.If x xs (Some (sym c.as_slice-in-Some.ensures i))) in
     shown {A = Text} (λ f. f) _ _ (sym (ap spec.bstmt is ∙ text-If x xs (Some ys)))
     (c.in_ok-put_mark-in-If.ensures ▸ c.in_ok-put_expr-in-If.ensures ▸ c.in_ok-put_body-in-If.ensures ▸ c.in_ok-put_else-in-If.ensures)
