@@ -1,5 +1,5 @@
 -- Writing one part behind the other.
-use Rattle.std.proofs.Common.{◌≡◌, ℕ, List, [], ◌∷◌, ◌++◌, Option, Some, None, sym, ap, ◌∙◌, OnOk, subst}
+use Rattle.std.proofs.Common.{◌≡◌, ℕ, List, Option, ◌∙◌, OnOk, subst}
 use Rattle.std.specs.Prelude.{Result, Ok, Err}
 use Rattle.pts_tree.specs.declared.mark.Mark.{Mark}
 use Rattle.pts_tree.specs.Spelling.{Text, word, optional}

@@ -6,3 +6,4 @@ pub mod Phrases
 pub mod Tasks
 pub mod Lines
 pub mod Texts
+pub mod Factoring

@@ -1,5 +1,5 @@
 -- Lines: signs with a space behind each, and then a line feed in place of the last space.
-use Rattle.std.proofs.Common.{◌≡◌, ℕ, ◌+◌, ◌-◌, ◌<◌, ◌≤◌, Bool, true, false, List, [], ◌∷◌, ◌++◌, length, get_or, drop, refl, sym, ap, ◌∙◌, append_assoc, length-append, arith}
+use Rattle.std.proofs.Common.{◌≡◌, ℕ, ◌+◌, ◌-◌, ◌<◌, ◌≤◌, true, List, [], ◌∷◌, ◌++◌, length, get_or, drop, refl, sym, ap, ◌∙◌, append_assoc, length-append, arith}
 use Rattle.std.specs.Prelude.{set, flat_map}
 use Rattle.std.proofs.Math.Seq.{set-append_seam}
 use Rattle.std.proofs.lemmas.Bool.{false≢true}
@@ -9,7 +9,7 @@ use Rattle.pts_tree.specs.declared.script.Item.TheVariants as items
 use Rattle.pts_tree.specs.Signs.{Sign}
 use Rattle.pts_tree.specs.Spelling.{Text, is_filled}
 use Rattle.pts_tree.specs.Scripts.{item}
-use Rattle.pts_tree.specs.Canonical.{sign_bytes, space, line_feed, spaced, line, item_line}
+use Rattle.pts_tree.specs.Canonical.{sign_bytes, space, line_feed, spaced, item_line}
 use Rattle.pts_tree.specs.Printing.{ended, Puts}
 use Rattle.pts_tree.proofs.Tasks.{block_text}
 

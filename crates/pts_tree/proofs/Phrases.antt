@@ -1,5 +1,5 @@
 -- How each statement of a loop's body is spelled, by what spells its parts.
-use Rattle.std.proofs.Common.{◌≡◌, ℕ, List, [], ◌∷◌, Option, Some, None, map, refl, sym, ap, ◌∙◌}
+use Rattle.std.proofs.Common.{◌≡◌, ℕ, List, ◌∷◌, Option, Some, None, map, refl, sym, ap, ◌∙◌}
 use Rattle.pts_types.specs.declared.operation.ScalarOp.{ScalarOp}
 use Rattle.pts_tree.specs.declared.mark.Mark.TheVariants as m
 use Rattle.pts_tree.specs.declared.expr.Expr.{Expr}
@@ -8,7 +8,7 @@ use Rattle.pts_tree.specs.declared.loops.BodyStmt.{BodyStmt}
 use Rattle.pts_tree.specs.declared.loops.BodyStmt.TheOpen.{BodyStmt-F}
 use Rattle.pts_tree.specs.declared.loops.BodyStmt.TheVariants as b
 use Rattle.pts_tree.specs.declared.loops.BodyStmt.TheFolds.{fold-roll-BodyStmt}
-use Rattle.pts_tree.specs.Signs.{Sign, Mark, Name, Number}
+use Rattle.pts_tree.specs.Signs.{Sign, Mark}
 use Rattle.pts_tree.specs.Spelling.{Text, each, optional}
 use Rattle.pts_tree.specs.Expressions.{expr}
 use Rattle.pts_tree.specs.Statements.{Phrase, phrase_step, phrase, phrase_text, bstmt, assign, let_name, combine, ordered, else_part, body, else_body, if_stmt, vec_off}

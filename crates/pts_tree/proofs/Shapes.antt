@@ -8,10 +8,10 @@ use Rattle.pts_tree.specs.declared.expr.Expr.TheOpen.{Expr-F}
 use Rattle.pts_tree.specs.declared.expr.Expr.TheVariants as e
 use Rattle.pts_tree.specs.declared.expr.Expr.TheFolds.{fold-roll-Expr, fold_out-ChainPart}
 use Rattle.pts_tree.specs.declared.expr.ChainPart.{ChainPart}
-use Rattle.pts_tree.specs.Signs.{Sign, Mark, Name, Number}
-use Rattle.pts_tree.specs.Spelling.{Text, each, separated, optional, word, name, number, kind}
+use Rattle.pts_tree.specs.Signs.{Sign, Mark, Name}
+use Rattle.pts_tree.specs.Spelling.{Text, each, separated, word, name, number}
 use Rattle.pts_tree.specs.Expressions.{Shape, Link, shape_step, link_step, shape, link, shape_text, link_text, expr, chain_part, enclosed, next_expr, throw, function_call, element, convert, chain, compare, if_else}
-use Rattle.pts_tree.proofs.Lists.{each_map, separated_map}
+use Rattle.pts_tree.proofs.Lists.{separated_map}
 
 -- ---- shapes
 

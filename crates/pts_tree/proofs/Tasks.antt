@@ -1,5 +1,5 @@
 -- How each statement of a task block is spelled, by what spells its parts.
-use Rattle.std.proofs.Common.{◌≡◌, ℕ, List, [], ◌∷◌, map, refl, sym, ap, ◌∙◌}
+use Rattle.std.proofs.Common.{◌≡◌, ℕ, List, ◌∷◌, map, sym, ap, ◌∙◌}
 use Rattle.pts_tree.specs.declared.mark.Mark.TheVariants as m
 use Rattle.pts_tree.specs.declared.sum.Cell.{Cell}
 use Rattle.pts_tree.specs.declared.expr.Expr.{Expr}
@@ -10,9 +10,9 @@ use Rattle.pts_tree.specs.declared.block.TaskStmt.TheOpen.{TaskStmt-F}
 use Rattle.pts_tree.specs.declared.block.TaskStmt.TheVariants as t
 use Rattle.pts_tree.specs.declared.block.TaskStmt.TheFolds.{fold-roll-TaskStmt, fold_out-Block}
 use Rattle.pts_tree.specs.declared.block.Block.{Block, out-Block}
-use Rattle.pts_tree.specs.Signs.{Sign, Mark, Name, Number}
-use Rattle.pts_tree.specs.Spelling.{Text, each, call}
-use Rattle.pts_tree.specs.Statements.{Phrase, phrase_text, Task, task_text, task_step, block_step, task, whole_block, tstmt, block, wait, throw_stmt, assign_cell, loop, run, task_block, task_allowed}
+use Rattle.pts_tree.specs.Signs.{Mark}
+use Rattle.pts_tree.specs.Spelling.{Text, call}
+use Rattle.pts_tree.specs.Statements.{Phrase, phrase_text, Task, task_text, task_step, block_step, task, whole_block, tstmt, block, wait, throw_stmt, assign_cell, loop, run, task_block}
 use Rattle.pts_tree.proofs.Lists.{each_map}
 
 pub task-Run : (xs : List TaskStmt) → task (t.Run xs) ≡ task_step (TaskStmt-F.Run (map task xs))

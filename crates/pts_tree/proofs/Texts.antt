@@ -1,5 +1,5 @@
 -- The texts of the words and symbols: each is that of one of them.
-use Rattle.std.proofs.Common.{◌≡◌, ◌≢◌, ℕ, zero, suc, ◌+◌, ◌<◌, ◌≤◌, List, [], ◌∷◌, length, get_or, drop, refl, sym, ap, ◌∙◌, arith}
+use Rattle.std.proofs.Common.{◌≡◌, ◌≢◌, ℕ, ◌<◌, List, [], ◌∷◌, get_or, refl, sym, ap, ◌∙◌, arith}
 use Rattle.std.specs.Prelude.{Option, Some, None, unwrap_or, cond, bytes_eq}
 use Rattle.pts_tree.specs.declared.mark.Mark.{Mark}
 use Rattle.pts_tree.specs.declared.mark.Mark.TheVariants as m

@@ -6,9 +6,11 @@ use Rattle.pts_tree.specs.Marks.{text_of}
 use Rattle.pts_tree.specs.Signs.{Sign, Mark, Name, Number}
 use Rattle.pts_tree.specs.Scripts.{header, item}
 
+-- the byte between two signs
 abbrev pub space : ℕ
 space = 32
 
+-- the byte that ends a line
 abbrev pub line_feed : ℕ
 line_feed = 10
 

@@ -1,5 +1,5 @@
 -- Which signs spell an expression, and which expressions the grammar has.
-use Rattle.std.specs.Prelude.{ℕ, Bool, true, false, ◌&&◌, ◌==◌, nat_lt, nat_le, is_some, Option, Some, None, List, [], ◌∷◌}
+use Rattle.std.specs.Prelude.{ℕ, Bool, true, ◌&&◌, ◌==◌, nat_lt, nat_le, is_some, Option, Some, None, List, [], ◌∷◌}
 use Rattle.std.specs.List.{list_all}
 use Rattle.pts_types.specs.declared.value.Kind.{Kind}
 use Rattle.pts_types.specs.declared.operation.ScalarOp.{ScalarOp}
@@ -10,7 +10,7 @@ use Rattle.pts_tree.specs.declared.expr.Expr.{Expr}
 use Rattle.pts_tree.specs.declared.expr.Expr.TheOpen.{Expr-F, ChainPart-F}
 use Rattle.pts_tree.specs.declared.expr.Expr.TheFolds.{fold-Expr, fold-ChainPart}
 use Rattle.pts_tree.specs.declared.expr.ChainPart.{ChainPart}
-use Rattle.pts_tree.specs.Signs.{Sign, Mark, Name, Number}
+use Rattle.pts_tree.specs.Signs.{Mark, Name, Number}
 use Rattle.pts_tree.specs.Spelling.{Text, each, separated, optional, word, kind, has_two, is_filled}
 
 -- ---- operators
@@ -39,6 +39,7 @@ operator_level ops.BitOr = 4
 operator_level ops.BitXor = 4
 operator_level _ = 0
 
+-- "==" | "!=" | "<" | "<=" | ">" | ">="
 abbrev pub compare_mark : ScalarOp → Option mark.Mark
 compare_mark ops.Equal = Some m.EqualEqual
 compare_mark ops.NotEqual = Some m.ExclamationEqual
@@ -66,12 +67,15 @@ pub record Link : Type 0 where
 abbrev pub is_at : ℕ → Shape → Bool
 is_at level x = nat_le x.level level && x.allowed
 
+-- what spells an expression of this shape
 abbrev pub shape_text : Shape → Text
 shape_text x = x.text
 
+-- whether the grammar has an expression of this shape
 abbrev pub shape_allowed : Shape → Bool
 shape_allowed x = x.allowed
 
+-- an operator and its operand
 abbrev pub link_text : Link → Text
 link_text x tail = optional word (chain_mark x.op) (x.operand.text tail)
 
@@ -84,9 +88,11 @@ chain_level (x ∷ xs) = operator_level x.op
 abbrev pub is_link : ℕ → Link → Bool
 is_link level x = operator_level x.op == level && nat_lt x.operand.level level && x.operand.allowed
 
+-- a chain whose first operand is of a lower level than its operators
 abbrev pub chain_allowed : ℕ → Shape → List Link → Bool
 chain_allowed level first links = nat_lt first.level level && first.allowed && list_all (is_link level) links
 
+-- one case for each alternative, with the shapes of its parts in their places
 abbrev pub shape_step : Expr-F Shape Link → Shape
 shape_step (Expr-F.Number n) = record { text = λ tail. Number n ∷ tail; level = 0; allowed = true }
 shape_step Expr-F.True = record { text = λ tail. Mark m.True ∷ tail; level = 0; allowed = true }
@@ -105,18 +111,23 @@ shape_step (Expr-F.All xs) = record { text = separated m.AmpersandAmpersand shap
 shape_step (Expr-F.Any xs) = record { text = separated m.BarBar shape_text xs; level = 7; allowed = has_two xs && list_all (is_at 6) xs }
 shape_step (Expr-F.If x y z) = record { text = λ tail. Mark m.If ∷ x.text (Mark m.Then ∷ y.text (Mark m.Else ∷ z.text tail)); level = 8; allowed = is_at 7 x && is_at 7 y && is_at 7 z }
 
+-- a part of a chain, with the shape of its operand
 abbrev pub link_step : ChainPart-F Shape Link → Link
 link_step x = record { op = x.op; operand = x.operand }
 
+-- the shape of an expression
 unfoldable pub shape : Expr → Shape
 shape = fold-Expr Shape Link shape_step link_step
 
+-- a part of a chain with the shape of its operand
 unfoldable pub link : ChainPart → Link
 link = fold-ChainPart Shape Link shape_step link_step
 
+-- what spells an expression
 abbrev pub expr : Expr → Text
 expr x = (shape x).text
 
+-- whether the grammar has this expression
 abbrev pub expr_allowed : Expr → Bool
 expr_allowed x = (shape x).allowed
 
@@ -132,6 +143,7 @@ enclosed before text after tail = Mark before ∷ text (Mark after ∷ tail)
 abbrev pub next_expr : mark.Mark → Expr → Text
 next_expr between x tail = Mark between ∷ expr x tail
 
+-- "throw" NUMBER
 abbrev pub throw : ℕ → Text
 throw n tail = Mark m.Throw ∷ Number n ∷ tail
 
@@ -139,17 +151,22 @@ throw n tail = Mark m.Throw ∷ Number n ∷ tail
 abbrev pub function_call : List ℕ → List Expr → Text
 function_call text xs tail = Name text ∷ Mark m.OpenParen ∷ separated m.Comma expr xs (Mark m.CloseParen ∷ tail)
 
+-- NAME "[" expr "]"
 abbrev pub element : List ℕ → Expr → Text
 element text x tail = Name text ∷ enclosed m.OpenBracket (expr x) m.CloseBracket tail
 
+-- kind "(" expr ")"
 abbrev pub convert : Kind → Expr → Text
 convert to x tail = Mark (kind to) ∷ enclosed m.OpenParen (expr x) m.CloseParen tail
 
+-- an operand, and then an operator and an operand any number of times
 abbrev pub chain : Expr → List ChainPart → Text
 chain x parts tail = expr x (each chain_part parts tail)
 
+-- two operands and what compares them
 abbrev pub compare : ScalarOp → Expr → Expr → Text
 compare op x y tail = expr x (optional word (compare_mark op) (expr y tail))
 
+-- "if" or "then" or "else" or
 abbrev pub if_else : Expr → Expr → Expr → Text
 if_else x y z tail = enclosed m.If (expr x) m.Then (expr y (next_expr m.Else z tail))

@@ -1,5 +1,5 @@
 -- The words and symbols of the language, and how they are spelled.
-use Rattle.std.specs.Prelude.{ℕ, Bool, ◌==◌, List, codes}
+use Rattle.std.specs.Prelude.{ℕ, List, codes}
 use Rattle.pts_tree.specs.declared.mark.Mark.{Mark}
 use Rattle.pts_tree.specs.declared.mark.Mark.TheVariants as m
 

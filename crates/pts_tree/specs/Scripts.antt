@@ -1,5 +1,5 @@
 -- Which signs spell an item and a script, and the canonical bytes of a script.
-use Rattle.std.specs.Prelude.{◌≡◌, ℕ, Bool, true, false, ◌&&◌, ◌==◌, List, [], ◌∷◌, ◌++◌, flat_map, decimal}
+use Rattle.std.specs.Prelude.{◌≡◌, ℕ, Bool, true, ◌&&◌, ◌==◌, List, [], ◌∷◌}
 use Rattle.std.specs.List.{list_all}
 use Rattle.pts_tree.specs.declared.mark.Mark.TheVariants as m
 use Rattle.pts_tree.specs.declared.sum.Sum.{Sum}
@@ -20,6 +20,7 @@ use Rattle.pts_tree.specs.Statements.{loop, loop_allowed, block, whole_block}
 
 -- ---- declarations
 
+-- "const" NAME "=" sum ";"
 abbrev pub const_decl : ConstDecl → Text
 const_decl x tail = Mark m.Const ∷ Name x.name ∷ Mark m.Equal ∷ sum x.value (Mark m.Semicolon ∷ tail)
 
@@ -27,18 +28,23 @@ const_decl x tail = Mark m.Const ∷ Name x.name ∷ Mark m.Equal ∷ sum x.valu
 abbrev pub vals : List Val → Text
 vals xs tail = separated m.Comma val xs tail
 
+-- "list" val ("," val)*
 abbrev pub list : List Val → Text
 list xs tail = Mark m.List ∷ vals xs tail
 
+-- "fill" val
 abbrev pub fill : Val → Text
 fill x tail = Mark m.Fill ∷ val x tail
 
+-- "iota" sum "step" sum
 abbrev pub iota : Sum → Sum → Text
 iota x y tail = Mark m.Iota ∷ sum x (Mark m.Step ∷ sum y tail)
 
+-- "mix" sum
 abbrev pub mix : Sum → Text
 mix x tail = Mark m.Mix ∷ sum x tail
 
+-- what an array starts with
 abbrev pub start : Start → Text
 start (starts.List xs) tail = list xs tail
 start (starts.Fill x) tail = fill x tail
@@ -54,10 +60,12 @@ start_allowed _ = true
 abbrev pub next_val : Val → Text
 next_val x tail = Mark m.Comma ∷ val x tail
 
+-- "array" NAME ":" kind "[" sum "]" "=" start ";"
 abbrev pub array_decl : ArrayDecl → Text
 array_decl x tail =
     Mark m.Array ∷ Name x.name ∷ Mark m.Colon ∷ Mark (kind x.kind) ∷ Mark m.OpenBracket ∷ sum x.length (Mark m.CloseBracket ∷ Mark m.Equal ∷ start x.start (Mark m.Semicolon ∷ tail))
 
+-- NAME ":" kind
 abbrev pub param : Param → Text
 param x tail = Name x.name ∷ Mark m.Colon ∷ Mark (kind x.kind) ∷ tail
 
@@ -69,6 +77,7 @@ next_param x tail = Mark m.Comma ∷ param x tail
 abbrev pub params : List Param → Text
 params xs tail = separated m.Comma param xs tail
 
+-- "fn" NAME "(" param ("," param)* ")" "->" kind "=" expr ";"
 abbrev pub function_decl : FunctionDecl → Text
 function_decl x tail =
     Mark m.Function ∷ Name x.name ∷ Mark m.OpenParen ∷ params x.params
@@ -76,9 +85,11 @@ function_decl x tail =
 
 -- ---- items and scripts
 
+-- "print" NAME ";"
 abbrev pub print : List ℕ → Text
 print text tail = Mark m.Print ∷ Name text ∷ Mark m.Semicolon ∷ tail
 
+-- one case for each declaration and statement
 abbrev pub item : Item → Text
 item (items.Const x) tail = const_decl x tail
 item (items.Array x) tail = array_decl x tail
@@ -88,6 +99,7 @@ item (items.Loop x) tail = loop x tail
 item (items.Block x) tail = block x tail
 item (items.Print text) tail = print text tail
 
+-- whether the grammar has this item
 abbrev pub item_allowed : Item → Bool
 item_allowed (items.Const x) = true
 item_allowed (items.Array x) = start_allowed x.start
@@ -97,9 +109,11 @@ item_allowed (items.Loop x) = loop_allowed x
 item_allowed (items.Block x) = (whole_block x).allowed
 item_allowed (items.Print text) = true
 
+-- "pts" NUMBER ";"
 abbrev pub header : ℕ → Text
 header version tail = Mark m.Pts ∷ Number version ∷ Mark m.Semicolon ∷ tail
 
+-- the header and item*
 abbrev pub script : Script → Text
 script x tail = header x.version (each item x.items tail)
 

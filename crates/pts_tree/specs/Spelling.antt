@@ -1,6 +1,5 @@
 -- Which signs spell a part of a script, from the tree to the signs: each function takes the signs that follow the part.
-use Rattle.std.specs.Prelude.{◌≡◌, ℕ, Bool, true, false, ◌&&◌, ◌==◌, nat_lt, nat_le, is_some, is_none, Option, Some, None, List, [], ◌∷◌}
-use Rattle.std.specs.List.{list_all}
+use Rattle.std.specs.Prelude.{ℕ, Bool, true, false, ◌&&◌, is_some, is_none, Option, Some, None, List, [], ◌∷◌}
 use Rattle.pts_types.specs.declared.value.Kind.{Kind}
 use Rattle.pts_types.specs.declared.value.Kind.TheVariants as kinds
 use Rattle.pts_types.specs.declared.operation.Policy.{Policy}
@@ -69,10 +68,12 @@ has_two (x ∷ xs) = is_filled xs
 
 -- ---- sums and what they measure
 
+-- `-`, where it is written
 abbrev pub minus : Bool → Text
 minus false tail = tail
 minus true tail = Mark m.MinusSign ∷ tail
 
+-- NUMBER | NAME
 abbrev pub atom : Atom → Text
 atom (atoms.Number n) tail = Number n ∷ tail
 atom (atoms.Name text) tail = Name text ∷ tail
@@ -82,30 +83,37 @@ abbrev pub sum_sign : Bool → mark.Mark
 sum_sign false = m.PlusSign
 sum_sign true = m.MinusSign
 
+-- ("+" | "-") atom
 abbrev pub sum_part : SumPart → Text
 sum_part x tail = Mark (sum_sign x.minus) ∷ atom x.atom tail
 
+-- optional "-" atom (("+" | "-") atom)*
 abbrev pub sum : Sum → Text
 sum x tail = minus x.negative (atom x.first (each sum_part x.rest tail))
 
+-- sum | "true" | "false"
 abbrev pub val : Val → Text
 val (vals.Sum x) tail = sum x tail
 val vals.True tail = Mark m.True ∷ tail
 val vals.False tail = Mark m.False ∷ tail
 
+-- NAME "[" sum ".." sum "]"
 abbrev pub range : Range → Text
 range x tail = Name x.array ∷ Mark m.OpenBracket ∷ sum x.low (Mark m.Range ∷ sum x.high (Mark m.CloseBracket ∷ tail))
 
+-- NAME "[" sum "]"
 abbrev pub cell : Cell → Text
 cell x tail = Name x.array ∷ Mark m.OpenBracket ∷ sum x.index (Mark m.CloseBracket ∷ tail)
 
 -- ---- kinds, policies and operations
 
+-- "i64" | "u64" | "bool"
 abbrev pub kind : Kind → mark.Mark
 kind kinds.I64 = m.I64
 kind kinds.U64 = m.U64
 kind kinds.Bool = m.Bool
 
+-- "seq" | "par" | "par_unseq" | "unseq" | "vec"
 abbrev pub policy : Policy → mark.Mark
 policy policies.Seq = m.Seq
 policy policies.Par = m.Par
@@ -124,6 +132,7 @@ op_mark ops.Min = Some m.Min
 op_mark ops.Max = Some m.Max
 op_mark _ = None
 
+-- a word of an operation | NAME
 abbrev pub op : Op → Text
 op (op_variants.Table x) tail = optional word (op_mark x) tail
 op (op_variants.Name text) tail = Name text ∷ tail
@@ -135,6 +144,7 @@ op_allowed (op_variants.Name text) = true
 
 -- ---- calls
 
+-- the word of a call
 abbrev pub form : CallForm → mark.Mark
 form forms.ForEach = m.ForEach
 form forms.Transform = m.Transform
@@ -147,15 +157,19 @@ form forms.ExclusiveScan = m.ExclusiveScan
 form forms.TransformInclusiveScan = m.TransformInclusiveScan
 form forms.TransformExclusiveScan = m.TransformExclusiveScan
 
+-- "," range
 abbrev pub second_range : Range → Text
 second_range x tail = Mark m.Comma ∷ range x tail
 
+-- "->" range
 abbrev pub target_range : Range → Text
 target_range x tail = Mark m.Arrow ∷ range x tail
 
+-- "init" val
 abbrev pub init_part : Val → Text
 init_part x tail = Mark m.Init ∷ val x tail
 
+-- "into" cell
 abbrev pub into : Cell → Text
 into x tail = Mark m.Into ∷ cell x tail
 
@@ -183,5 +197,6 @@ abbrev pub if_there : {A : Type 0} → (A → Bool) → Option A → Bool
 if_there test None = true
 if_there test (Some x) = test x
 
+-- whether the grammar has this call
 abbrev pub call_allowed : Call → Bool
 call_allowed x = has_parts x.form x && if_there op_allowed x.op

@@ -4,6 +4,7 @@
 mod block;
 mod call;
 mod expr;
+mod grammar;
 mod loops;
 mod mark;
 mod name;
@@ -17,8 +18,9 @@ mod tests;
 pub use block::{Block, TaskStmt};
 pub use call::{Call, CallForm, Op};
 pub use expr::{ChainPart, Expr, Place};
+pub use grammar::same_grammar;
 pub use loops::{BodyStmt, Clause, InductClause, Initial, Loop, ReduceClause};
-pub use mark::Mark;
+pub use mark::{Mark, one_mark};
 pub use name::Name;
 pub use printing::print;
 pub use script::{ArrayDecl, ConstDecl, FunctionDecl, Item, Param, Script, Start};

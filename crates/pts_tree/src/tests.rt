@@ -178,29 +178,62 @@ fn block_item(alloc: Global) -> Result<Item, AllocError> {
     }))
 }
 
-// One item of each kind.
-#[test]
-fn prints_a_line_for_each_item(rt: HostRuntime) -> Result<(), Fail> {
-    let alloc = rt.alloc();
-    let mut items = two(alloc, const_item(alloc)?, array_item(alloc)?)?;
-    items.push(function_item(alloc)?)?;
-    items.push(Item::Call(call(alloc)?))?;
-    items.push(loop_item(alloc)?)?;
-    items.push(block_item(alloc)?)?;
-    items.push(Item::Print(name(alloc, "a")?))?;
-    let Ok(text) = print(alloc, &Script { version: 1, items }) else {
-        return Ok(());
+// The text of a script with this item alone.
+fn text(alloc: Global, item: Item) -> Result<Vec<u8>, AllocError> {
+    let script = Script {
+        version: 1,
+        items: one(alloc, item)?,
     };
-    let lines = "pts 1 ;
-const N = - 2 - M ;
-array a : bool [ 2 ] = list true , 0 ;
+    print(alloc, &script).map_err(|_| AllocError)
+}
+
+#[test]
+fn prints_declarations(rt: HostRuntime) -> Result<(), Fail> {
+    let alloc = rt.alloc();
+    let constant = text(alloc, const_item(alloc)?)?;
+    assert_eq!(rt;
+        constant.as_slice(),
+        b"pts 1 ;\nconst N = - 2 - M ;\n".as_slice()
+    );
+    let array = text(alloc, array_item(alloc)?)?;
+    assert_eq!(rt;
+        array.as_slice(),
+        b"pts 1 ;\narray a : bool [ 2 ] = list true , 0 ;\n".as_slice()
+    );
+    let function = text(alloc, function_item(alloc)?)?;
+    let expected = b"pts 1 ;
 fn f ( x : u64 , y : u64 ) -> bool = ( x + 1 ) * 2 <= g ( x , y ) ;
-transform_reduce par_unseq a [ 0 .. 2 ] , a [ 0 .. 2 ] init false bit_xor f into a [ 0 ] ;
-for_loop vec i = 0 to 4 reduce a [ 0 ] f identity 1 as v induct j : i64 = a [ 1 ] step 3 { if ! true { ordered a [ i ] |= 1 ; } else { v ~= j ; } vec_off { } }
-task_block { run { throw 7 ; a [ 0 ] = 5 ; } wait ; }
-print a ;
 ";
-    assert_eq!(rt; text.as_slice(), lines.as_bytes());
+    assert_eq!(rt; function.as_slice(), expected.as_slice());
+    Ok(())
+}
+
+#[test]
+fn prints_statements(rt: HostRuntime) -> Result<(), Fail> {
+    let alloc = rt.alloc();
+    let sum = text(alloc, Item::Call(call(alloc)?))?;
+    let expected = b"pts 1 ;
+transform_reduce par_unseq a [ 0 .. 2 ] , a [ 0 .. 2 ] init false bit_xor f into a [ 0 ] ;
+";
+    assert_eq!(rt; sum.as_slice(), expected.as_slice());
+    let block = text(alloc, block_item(alloc)?)?;
+    let expected = b"pts 1 ;
+task_block { run { throw 7 ; a [ 0 ] = 5 ; } wait ; }
+";
+    assert_eq!(rt; block.as_slice(), expected.as_slice());
+    let printing = text(alloc, Item::Print(name(alloc, "a")?))?;
+    assert_eq!(rt; printing.as_slice(), b"pts 1 ;\nprint a ;\n".as_slice());
+    Ok(())
+}
+
+#[test]
+fn prints_a_loop(rt: HostRuntime) -> Result<(), Fail> {
+    let alloc = rt.alloc();
+    let found = text(alloc, loop_item(alloc)?)?;
+    let expected = b"pts 1 ;
+for_loop vec i = 0 to 4 reduce a [ 0 ] f identity 1 as v induct j : i64 = a [ 1 ] step 3 { if ! true { ordered a [ i ] |= 1 ; } else { v ~= j ; } vec_off { } }
+";
+    assert_eq!(rt; found.as_slice(), expected.as_slice());
     Ok(())
 }
 

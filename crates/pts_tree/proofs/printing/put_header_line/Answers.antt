@@ -1,7 +1,7 @@
-use Rattle.std.proofs.Common.{◌≡◌, ◌∙◌, refl, append_assoc, ◌++◌, [], ◌∷◌}
+use Rattle.std.proofs.Common.{◌∙◌, refl, append_assoc, [], ◌∷◌}
 use Rattle.pts_tree.specs.Canonical.{spaced, line_feed}
-use Rattle.pts_tree.specs.Scripts.{item, header}
-use Rattle.pts_tree.proofs.Lines.{ends_with_space, is_longer, item_filled}
+use Rattle.pts_tree.specs.Scripts.{header}
+use Rattle.pts_tree.proofs.Lines.{ends_with_space, is_longer}
 use Rattle.pts_tree.proofs.printing.put_header_line.Goals as goal
 
 pub end_line-requires : goal.end_line-requires

@@ -1,6 +1,6 @@
-use Rattle.std.proofs.Common.{◌≡◌, ◌∙◌, refl, append_assoc, ◌++◌, [], ◌∷◌}
+use Rattle.std.proofs.Common.{◌∙◌, append_assoc, [], ◌∷◌}
 use Rattle.pts_tree.specs.Canonical.{spaced, line_feed}
-use Rattle.pts_tree.specs.Scripts.{item, header}
+use Rattle.pts_tree.specs.Scripts.{item}
 use Rattle.pts_tree.proofs.Lines.{ends_with_space, is_longer, item_filled}
 use Rattle.pts_tree.proofs.printing.put_item_line.Goals as goal
 

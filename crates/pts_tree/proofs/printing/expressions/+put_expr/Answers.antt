@@ -1,6 +1,5 @@
 use Rattle.std.proofs.Common.{◌≡◌, sym, ap, ◌∙◌}
 use Rattle.pts_tree.specs.declared.expr.Expr.TheVariants as e
-use Rattle.pts_tree.specs.Spelling.{Text}
 use Rattle.pts_tree.specs.Expressions as spec
 use Rattle.pts_tree.proofs.Chains.{◌▸◌, last, said, said_optional, on_text}
 use Rattle.pts_tree.proofs.Shapes.{text-Chain, text-Compare, text-If}

@@ -1,4 +1,3 @@
-use Rattle.std.specs.Prelude.{◌≤◌}
 use Rattle.pts_tree.specs.Expressions as spec
 use Rattle.pts_tree.proofs.Turns.{Written}
 use Rattle.pts_tree.proofs.printing.expressions.«+put_expr».Given as goal

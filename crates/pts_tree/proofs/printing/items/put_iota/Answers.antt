@@ -1,4 +1,4 @@
-use Rattle.pts_tree.proofs.Chains.{◌▸◌, last, said, said_optional}
+use Rattle.pts_tree.proofs.Chains.{◌▸◌, last}
 use Rattle.pts_tree.proofs.printing.items.put_iota.Goals as goal
 
 pub returns : goal.returns

@@ -1,4 +1,4 @@
-use Rattle.pts_tree.proofs.Chains.{◌▸◌, last}
+use Rattle.pts_tree.proofs.Chains.{last}
 use Rattle.pts_tree.proofs.printing.statements.put_combine.Goals as goal
 
 pub returns : goal.returns

@@ -1,4 +1,4 @@
-use Rattle.pts_tree.proofs.Chains.{◌▸◌, last, said, said_optional}
+use Rattle.pts_tree.proofs.Chains.{last}
 use Rattle.pts_tree.proofs.printing.statements.put_wait.Goals as goal
 
 pub returns : goal.returns
