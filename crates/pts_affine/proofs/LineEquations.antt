@@ -1,6 +1,6 @@
 -- The equation of two lines, in the four cases of their signs.
-use Rattle.std.proofs.Common.{◌≡◌, ℕ, ◌+◌, ◌-◌, ◌*◌, ◌^◌, ◌<◌, ◌≤◌, Bool, true, false, ℤ, pos, sym, ap, ◌∙◌, subst, arith, w64, to_z, of_z, SFits}
-use Rattle.std.specs.Prelude.{◌↔◌, ◌≤ℤ◌, ◌<ℤ◌, unsigned_abs, int_lt, IsTrue}
+use Rattle.std.proofs.Common.{◌≡◌, ℕ, ◌+◌, ◌-◌, ◌*◌, ◌^◌, ◌<◌, ◌≤◌, Bool, true, false, ℤ, pos, ap, ◌∙◌, subst, arith, w64, to_z, of_z, SFits}
+use Rattle.std.specs.Prelude.{◌↔◌, ◌≤ℤ◌, unsigned_abs, int_lt}
 use Rattle.std.proofs.lemmas.Int.{ints, to_z-of_z}
 use Rattle.pts_affine.specs.declared.line.Line.{Line}
 use Rattle.pts_affine.specs.declared.equation.Equation.{Equation}

@@ -5,7 +5,7 @@ use Rattle.std.proofs.lemmas.Bool.{false≢true}
 use Rattle.std.proofs.lemmas.Nat.{mul-le}
 use Rattle.std.proofs.Math.Nat.{le_of_mul-le-mul_left, lt_of_mul-lt-mul_left, mul-le-mul_left, mul-div_cancel_left}
 use Rattle.pts_affine.specs.declared.equation.Equation.{Equation}
-use Rattle.pts_affine.specs.Equations.{Solves, HasPartner, IsBefore, IsLeastRoot, place}
+use Rattle.pts_affine.specs.Equations.{Solves, HasPartner, IsBefore, place}
 use Rattle.pts_affine.specs.Lines.{IsLeast}
 
 -- the bound on p says that it stands before its q

@@ -1,4 +1,4 @@
-use Rattle.std.proofs.Common.{◌≡◌, ◌+◌, ◌-◌, ◌*◌, ◌<◌, ◌≤◌, ap, arith}
+use Rattle.std.proofs.Common.{◌+◌, ◌<◌, arith}
 use Rattle.pts_affine.proofs.Level.{least_later, least_first}
 use Rattle.pts_affine.proofs.equation.least_level.Goals as goal
 use Rattle.pts_affine.proofs.equation.least_level.Goals.{then-e, else-e}

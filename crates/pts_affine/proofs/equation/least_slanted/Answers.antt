@@ -1,4 +1,4 @@
-use Rattle.std.proofs.Common.{◌≡◌, ◌+◌, ◌-◌, ◌*◌, ◌/◌, ◌^◌, ◌<◌, ◌≤◌, sym, subst, arith}
+use Rattle.std.proofs.Common.{◌≡◌, ◌+◌, ◌-◌, ◌*◌, sym, subst, arith}
 use Rattle.pts_affine.specs.Equations.{HasPartner, Solves}
 use Rattle.pts_affine.specs.Lines.{IsLeast}
 use Rattle.pts_affine.proofs.Partners.{partner-of, solves-of, root-of, same-of, quotient-of, not_after, small-product}

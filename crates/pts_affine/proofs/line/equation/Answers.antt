@@ -1,7 +1,6 @@
-use Rattle.std.proofs.Common.{◌≡◌, ◌+◌, ◌-◌, ◌*◌, ◌^◌, ◌<◌, ◌≤◌, arith, rules, w64, SFits}
+use Rattle.std.proofs.Common.{◌≡◌, arith, rules, w64, SFits}
 use Rattle.std.specs.Prelude.{unsigned_abs}
-use Rattle.pts_affine.proofs.Cells.{small-start, small-slope}
-use Rattle.pts_affine.proofs.Partners.{small-product}
+use Rattle.pts_affine.proofs.Cells.{small-start}
 use Rattle.pts_affine.proofs.LineEquations.{abs_of, is-negative, not-negative, is-positive, not-positive, small-across, small-straight, small-crossed, small-first, small-second, rising, crossed, first-turned, second-turned}
 use Rattle.pts_affine.proofs.line.equation.Goals as goal
 

@@ -1,7 +1,7 @@
-use Rattle.std.proofs.Common.{◌≡◌, ◌+◌, ◌-◌, ◌^◌, ◌<◌, ◌≤◌, ℤ, pos, ◌+ℤ◌, ◌*ℤ◌, sym, ap, ◌∙◌, subst, arith, rules, false, w64, to_z, of_z, SFits}
-use Rattle.std.specs.Prelude.{◌≤ℤ◌, ◌<ℤ◌, int_le}
+use Rattle.std.proofs.Common.{◌≡◌, ◌-◌, ◌^◌, ℤ, pos, ◌+ℤ◌, ◌*ℤ◌, sym, ap, ◌∙◌, subst, arith, rules, false, w64, to_z, of_z, SFits}
+use Rattle.std.specs.Prelude.{◌<ℤ◌, int_le}
 use Rattle.std.proofs.lemmas.Int.{ints, to_z-of_z}
-use Rattle.pts_affine.specs.Lines.{IsBounded, IsCell}
+use Rattle.pts_affine.specs.Lines.{IsCell}
 use Rattle.pts_affine.proofs.Cells.{bounded-by-ends, first-is}
 use Rattle.pts_affine.proofs.LineEquations.{not-negative}
 use Rattle.pts_affine.proofs.tests.bounded.Goals as goal
