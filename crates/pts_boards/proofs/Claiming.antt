@@ -47,9 +47,9 @@ draws_part terms weight k word counted mark part below =
     )
 
 -- else the seat is past
-draws_none : (terms : Terms) (weight : ℕ) (k : Drawn) (word : ℕ) (counted : ℕ → ℕ) (mark : ℕ) → 1 ≤ weight → k.past ≡ false → IsPartOf claim_sort terms weight k word counted mark
+draws_none : (terms : Terms) (weight : ℕ) (k : Drawn) (word : ℕ) (counted : ℕ → ℕ) (mark : ℕ) → k.past ≡ false → IsPartOf claim_sort terms weight k word counted mark
     → terms.parts ≤ word → Leads claim_sort terms weight k word counted mark (word + 1) (Draws terms.parts k word)
-draws_none terms weight k word counted mark some left part none =
+draws_none terms weight k word counted mark left part none =
     let l = drawn k.numbers true in
     let counts : (x : ℕ) → counted x ≡ once_below terms.parts x = λ x. part.agrees.0 x ∙ ap (λ (n : ℕ). once_below n x) (let r : min word terms.parts ≡ terms.parts = omega arith in r) in (
       l,
@@ -61,7 +61,7 @@ draws_none terms weight k word counted mark some left part none =
                   let a = changed.counted_is x in
                   let b = counts x in
                   let c : once_below (min (word + 1) terms.parts) x ≡ once_below terms.parts x = ap (λ (n : ℕ). once_below n x) (let r : min (word + 1) terms.parts ≡ terms.parts = omega arith in r) in omega arith),
-              (let a = part.agrees.1 in omega arith),
+              (let a = part.agrees.1 in let b = part.some in omega arith),
             ),
             (λ past. omega arith),
             λ other fits past. omega arith,
@@ -74,13 +74,13 @@ draws_none terms weight k word counted mark some left part none =
       },
     )
 
-pub claims_move : (terms : Terms) (weight : ℕ) (k : Drawn) → 1 ≤ weight → k.past ≡ false → terms.parts ≤ 1048576 → terms.shares ≤ 64
+pub claims_move : (terms : Terms) (weight : ℕ) (k : Drawn) → k.past ≡ false → terms.parts ≤ 1048576 → terms.shares ≤ 64
     → Moves claim_sort terms weight k (λ n. (n + 1) % 2 ^ 64) (Draws terms.parts k)
-claims_move terms weight k some left few_parts few word counted mark part =
+claims_move terms weight k left few_parts few word counted mark part =
     let small : word + 1 < 2 ^ 64 = let a = part.agrees.1 in let b = part.room in omega arith in
     let next : (word + 1) % 2 ^ 64 ≡ word + 1 = mod-eq_of_lt {n = word + 1} {m = 2 ^ 64} small in
     let To : ℕ → Type 0 = λ n. Leads claim_sort terms weight k word counted mark n (Draws terms.parts k word) in
-    subst To (sym next) (⊎_elim (draws_part terms weight k word counted mark part) (draws_none terms weight k word counted mark some left part) (cases_lt word terms.parts))
+    subst To (sym next) (⊎_elim (draws_part terms weight k word counted mark part) (draws_none terms weight k word counted mark left part) (cases_lt word terms.parts))
 
 pub claims_look : (terms : Terms) (weight : ℕ) (k : Drawn) → Moves claim_sort terms weight k (λ n. n) (λ n l. ShowsOnce k l)
 claims_look terms weight k = looks claim_sort terms weight k (λ n l. ShowsOnce k l) (λ word counted mark part. (

@@ -8,9 +8,9 @@ use Rattle.pts_boards.specs.Rule.{Leads, Moves}
 use Rattle.pts_boards.proofs.Numbers.{pos_of_ltb}
 use Rattle.pts_boards.proofs.Rule.{looks}
 
-pub raise_move : (terms : Terms) (weight : ℕ) (k : Raises) → 1 ≤ weight → k.raised ≡ false → terms.shares ≤ 64
+pub raise_move : (terms : Terms) (weight : ℕ) (k : Raises) → k.raised ≡ false → terms.shares ≤ 64
     → Moves alarm_sort terms weight k (λ n. (n + 1) % 2 ^ 64) (λ _ l. l ≡ raises (k.count + 1) true k.seen)
-raise_move terms weight k some first few word counted mark part =
+raise_move terms weight k first few word counted mark part =
     let unmarked : cond k.raised weight 0 ≡ 0 = ap (λ (b : Bool). cond b weight 0) first in
     let room : mark + weight ≤ terms.shares = subst (λ (b : Bool). mark + cond b 0 weight ≤ terms.shares) first part.room in
     let small : word + 1 < 2 ^ 64 = let a = part.agrees.1 in omega arith in
@@ -23,7 +23,8 @@ raise_move terms weight k some first few word counted mark part =
           let a = changed.counted_is 0 in
           let b = changed.mark_is in
           let c = part.agrees.0 in
-          let d = part.agrees.1 in (
+          let d = part.agrees.1 in
+          let e = part.some in (
             (omega arith, omega arith),
             (λ seen. omega arith),
             λ other fits seen. omega arith,

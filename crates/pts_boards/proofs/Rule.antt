@@ -52,9 +52,10 @@ module _ {K : Type 0} (sort : Sort K) where
 
 module _ {S K : Type 0} (sort : Sort K) (lawful : IsLawful sort) where
   -- what a seat knows of the table, where it is one of the views
-  part_of : (terms : Terms) (s : State S (Hand K)) (kept : Kept sort terms s) (id : ℕ) (v : Hand K) → get_elem? s.views id ≡ some v → kept.word < 2 ^ 64
+  part_of : (terms : Terms) (s : State S (Hand K)) (kept : Kept sort terms s) (id : ℕ) (v : Hand K) → get_elem? s.views id ≡ some v → 1 ≤ v.weight → kept.word < 2 ^ 64
       → IsPartOf sort terms v.weight v.known kept.word (counts sort s.views) (marks sort s.views)
-  part_of terms s kept id v at small = record {
+  part_of terms s kept id v at some_weight small = record {
+    some = some_weight;
     small = small;
     agrees = kept.agrees;
     fits = kept.fits id v at;
@@ -155,7 +156,7 @@ module _ {S K : Type 0} (sort : Sort K) (lawful : IsLawful sort) where
   moves terms slots id v held next then some_weight moving s kept homes at small =
       let word_is : slice_index s.words 0 ≡ kept.word = ap (λ (ws : List ℕ). slice_index ws 0) kept.words in
       let low : kept.word < 2 ^ 64 = omega arith in
-      let step = moving kept.word (counts sort s.views) (marks sort s.views) (part_of terms s kept id v at low) in
+      let step = moving kept.word (counts sort s.views) (marks sort s.views) (part_of terms s kept id v at some_weight low) in
       let w = hand v.weight step.0 in
       let views : List (Hand K) = slice_set s.views id w in
       let kept' = step.1 (counts sort views) (marks sort views) record {

@@ -67,6 +67,7 @@ module _ {K : Type 0} (sort : Sort K) where
 
   -- What a seat can tell of the table between two steps: the rule, and that it is one of the views
   pub record IsPartOf (terms : Terms) (weight : ℕ) (k : K) (word : ℕ) (counted : ℕ → ℕ) (mark : ℕ) : Type 0 where
+    pub some : 1 ≤ weight
     pub small : word < 2 ^ 64
     pub agrees : sort.Agrees terms word counted mark
     pub fits : sort.Fits terms word counted k

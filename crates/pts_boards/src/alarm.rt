@@ -40,7 +40,7 @@ impl Model for Alarm {
     ghost invariant = { λ a. a.board.terms.shares ≤ 64 };
 }
 
-/// The right to raise an alarm once, and to see it.
+/// The right to raise an alarm once and to see it, with a share of its weight.
 #[derive(Drop)]
 pub struct AlarmSeat {
     chair: Chair<Raises>,
@@ -48,14 +48,14 @@ pub struct AlarmSeat {
 }
 
 impl Model for AlarmSeat {
-    ghost use Rattle.std.specs.Prelude.{◌≡◌, ◌≤◌, []};
+    ghost use Rattle.std.specs.Prelude.{◌≡◌};
     ghost use Rattle.pts_boards.specs.Seats.{AlarmSeatState};
 
     ghost Value = { AlarmSeatState };
 
-    ghost view = { λ s. record { board = s.chair.table_id; weight = s.chair.me.0.weight; raises = s.chair.me.0.known.count; raised = s.raised; seen = s.chair.me.0.known.seen } };
+    ghost view = { λ s. record { board = s.chair.board; weight = s.chair.weight; raises = s.chair.known.count; raised = s.raised; seen = s.chair.known.seen } };
 
-    ghost invariant = { λ s. (s.chair.me.1 ≡ []) × (1 ≤ s.chair.me.0.weight) × (s.chair.me.0.known.raised ≡ s.raised) };
+    ghost invariant = { λ s. s.chair.known.raised ≡ s.raised };
 }
 
 impl AlarmSeat {
@@ -68,7 +68,7 @@ impl AlarmSeat {
 }
 
 impl Alarm {
-    /// A board on which nothing was raised, and its first seat, which has the whole weight.
+    /// A board on which nothing was raised, and its first seat, which has the whole weight of 1 to 64 shares. Fails only for want of memory.
     pub fn make(alloc: Global, shares: u32) -> Result<(Alarm, AlarmSeat), NoMemory>
         requires some { 1 ≤ shares }
         requires few { shares ≤ 64 }
@@ -95,7 +95,7 @@ impl Alarm {
         seat.raised = true;
     }
 
-    /// Whether a raise is there to be seen.
+    /// Whether some seat has raised, as far as this one sees. Once it is so, it stays so.
     pub fn seen(&self, seat: &mut AlarmSeat) -> bool
         requires { seat.old.board ≡ self.now.id }
         ensures known { seat.new ≡ record seat.old { seen = result } }

@@ -6,9 +6,9 @@ ghost use Rattle.pts_boards.specs.Rule.{Sort, IsLawful, Moves, Ends, hand};
 use atomic_table::{Join, Play, Seat, Split, Table, TableRule};
 use pts_types::NoMemory;
 use std::alloc::Global;
-use std::marker::{Brand, PhantomData};
+use std::marker::{Brand, Model, PhantomData};
 
-/// What is fixed when a board is made: how many parts there are to draw, and the weight of all seats.
+/// What is fixed when a board is made: how many parts there are to draw, which is 0 where none are, and the weight of all seats.
 #[derive(Clone, Copy, Debug, PartialEq, Eq)]
 pub struct Terms {
     pub parts: u64,
@@ -99,7 +99,23 @@ impl<K, T: Telling<K>> Play<(), Hand<K>> for Told<T> {
 }
 
 /// A seat at a board of some sort.
-pub type Chair<K> = Seat<(), Hand<K>>;
+#[derive(Drop)]
+pub struct Chair<K> {
+    seat: Seat<(), Hand<K>>,
+}
+
+impl<K> Model for Chair<K> {
+    ghost use Rattle.std.specs.Prelude.{◌≡◌, ◌≤◌, []};
+    ghost use Rattle.pts_boards.specs.Seats.{ChairState, chair_code};
+
+    ghost Value = { ChairState K };
+
+    ghost coded = { chair_code K.code };
+
+    ghost view = { λ c. record { board = c.seat.table_id; weight = c.seat.me.0.weight; known = c.seat.me.0.known } };
+
+    ghost invariant = { λ c. (c.seat.me.1 ≡ []) × (1 ≤ c.seat.me.0.weight) };
+}
 
 /// One word, and the terms that it was made under.
 #[derive(Drop)]
@@ -114,90 +130,88 @@ pub struct Board<K: Knowledge> {
 impl<K: Knowledge> Board<K> {
     /// A board whose word is this, and the seat with the whole weight.
     pub fn make(alloc: Global, terms: Terms, word: u64) -> Result<(Board<K>, Chair<K>), NoMemory>
-        requires { K.sort.Agrees terms word (λ _. 0) 0 }
+        requires some { 1 ≤ terms.shares }
+        requires agrees { K.sort.Agrees terms word (λ _. 0) 0 }
         ensures terms { IfOk result (λ made. made.0.terms ≡ terms) }
-        ensures board { IfOk result (λ made. made.1.table_id ≡ made.0.table.shared.table_id) }
-        ensures seat { IfOk result (λ made. made.1.me ≡ (hand terms.shares K.sort.nothing, [])) }
+        ensures seat { IfOk result (λ made. made.1 ≡ record { board = made.0.table.shared.table_id; weight = terms.shares; known = K.sort.nothing }) }
     {
         let (table, seat) = Table::of_words(alloc, &[word], &terms).map_err(|_| NoMemory)?;
-        Ok((Board { table, terms }, seat))
+        Ok((Board { table, terms }, Chair { seat }))
     }
 
     /// A new seat with this much of the weight of another.
     pub fn split(&self, seat: &mut Chair<K>, weight: u32) -> Chair<K>
-        requires board { seat.old.table_id ≡ self.now.table.shared.table_id }
+        requires board { seat.old.board ≡ self.now.table.shared.table_id }
         requires some { 1 ≤ weight }
-        requires rest { weight < seat.old.me.0.weight }
-        ensures board { (seat.new.table_id ≡ seat.old.table_id) × (result.table_id ≡ seat.old.table_id) }
-        ensures kept { seat.new.me ≡ (hand (seat.old.me.0.weight - weight) seat.old.me.0.known, seat.old.me.1) }
-        ensures new { result.me ≡ (hand weight (K.sort.passed seat.old.me.0.known), []) }
+        requires rest { weight < seat.old.weight }
+        ensures kept { seat.new ≡ record seat.old { weight = seat.old.weight - weight } }
+        ensures new { result ≡ record { board = seat.old.board; weight = weight; known = K.sort.passed seat.old.known } }
     {
         self.cut::<Brand>(seat, weight)
     }
 
     fn cut<A: Amount>(&self, seat: &mut Chair<K>, weight: u32) -> Chair<K>
         requires amount { A.amount ≡ weight }
-        requires board { seat.old.table_id ≡ self.now.table.shared.table_id }
+        requires board { seat.old.board ≡ self.now.table.shared.table_id }
         requires some { 1 ≤ weight }
-        requires rest { weight < seat.old.me.0.weight }
-        ensures board { (seat.new.table_id ≡ seat.old.table_id) × (result.table_id ≡ seat.old.table_id) }
-        ensures kept { seat.new.me ≡ (hand (seat.old.me.0.weight - weight) seat.old.me.0.known, seat.old.me.1) }
-        ensures new { result.me ≡ (hand weight (K.sort.passed seat.old.me.0.known), []) }
+        requires rest { weight < seat.old.weight }
+        ensures kept { seat.new ≡ record seat.old { weight = seat.old.weight - weight } }
+        ensures new { result ≡ record { board = seat.old.board; weight = weight; known = K.sort.passed seat.old.known } }
     {
-        self.table.shared.split_seat::<Cut<K, A>>(seat)
+        let seat = self.table.shared.split_seat::<Cut<K, A>>(&mut seat.seat);
+        Chair { seat }
     }
 
     /// Adds the weight of the other seat and what it knows.
     pub fn join(&self, seat: &mut Chair<K>, other: Chair<K>)
-        requires board { (seat.old.table_id ≡ self.now.table.shared.table_id) × (other.table_id ≡ self.now.table.shared.table_id) }
-        requires some { 1 ≤ seat.old.me.0.weight }
-        requires empty { other.me.1 ≡ [] }
-        ensures board { seat.new.table_id ≡ seat.old.table_id }
-        ensures both { seat.new.me ≡ (hand (seat.old.me.0.weight + other.me.0.weight) (K.sort.merged seat.old.me.0.known other.me.0.known), seat.old.me.1) }
+        requires board { seat.old.board ≡ self.now.table.shared.table_id }
+        requires other { other.board ≡ self.now.table.shared.table_id }
+        ensures { seat.new ≡ record { board = seat.old.board; weight = seat.old.weight + other.weight; known = K.sort.merged seat.old.known other.known } }
     {
-        self.table.shared.join_seat::<Merge<K>>(seat, other);
+        let Chair { seat: other } = other;
+        self.table
+            .shared
+            .join_seat::<Merge<K>>(&mut seat.seat, other);
     }
 
     /// Reads the word.
     pub fn load<T: Telling<K>>(&self, seat: &mut Chair<K>) -> u64
-        requires board { seat.old.table_id ≡ self.now.table.shared.table_id }
-        requires some { 1 ≤ seat.old.me.0.weight }
-        requires moves { Moves K.sort self.now.terms seat.old.me.0.weight seat.old.me.0.known (λ n. n) T.then }
-        ensures board { (seat.new.table_id ≡ seat.old.table_id) × (seat.new.me.1 ≡ seat.old.me.1) × (seat.new.me.0.weight ≡ seat.old.me.0.weight) }
-        ensures told { T.then result seat.new.me.0.known }
+        requires board { seat.old.board ≡ self.now.table.shared.table_id }
+        requires moves { Moves K.sort self.now.terms seat.old.weight seat.old.known (λ n. n) T.then }
+        ensures kept { seat.new ≡ record seat.old { known = seat.new.known } }
+        ensures told { T.then result seat.new.known }
     {
-        self.table.shared.load::<Told<T>>(seat, 0)
+        self.table.shared.load::<Told<T>>(&mut seat.seat, 0)
     }
 
     /// Adds 1 to the word, and gives it as it was.
     pub fn add_one<T: Telling<K>>(&self, seat: &mut Chair<K>) -> u64
-        requires board { seat.old.table_id ≡ self.now.table.shared.table_id }
-        requires some { 1 ≤ seat.old.me.0.weight }
-        requires moves { Moves K.sort self.now.terms seat.old.me.0.weight seat.old.me.0.known (λ n. (n + 1) % 2 ^ 64) T.then }
-        ensures board { (seat.new.table_id ≡ seat.old.table_id) × (seat.new.me.1 ≡ seat.old.me.1) × (seat.new.me.0.weight ≡ seat.old.me.0.weight) }
-        ensures told { T.then result seat.new.me.0.known }
+        requires board { seat.old.board ≡ self.now.table.shared.table_id }
+        requires moves { Moves K.sort self.now.terms seat.old.weight seat.old.known (λ n. (n + 1) % 2 ^ 64) T.then }
+        ensures kept { seat.new ≡ record seat.old { known = seat.new.known } }
+        ensures told { T.then result seat.new.known }
     {
-        self.table.shared.fetch_add::<Told<T>>(seat, 0, 1)
+        self.table.shared.fetch_add::<Told<T>>(&mut seat.seat, 0, 1)
     }
 
-    /// Lowers the word to `x` where it is greater.
+    /// Lowers the word to `x` where it is greater, and gives it as it was.
     pub fn lower<T: Telling<K>>(&self, seat: &mut Chair<K>, x: u64) -> u64
-        requires board { seat.old.table_id ≡ self.now.table.shared.table_id }
-        requires some { 1 ≤ seat.old.me.0.weight }
-        requires moves { Moves K.sort self.now.terms seat.old.me.0.weight seat.old.me.0.known (λ n. min n x) T.then }
-        ensures board { (seat.new.table_id ≡ seat.old.table_id) × (seat.new.me.1 ≡ seat.old.me.1) × (seat.new.me.0.weight ≡ seat.old.me.0.weight) }
-        ensures told { T.then result seat.new.me.0.known }
+        requires board { seat.old.board ≡ self.now.table.shared.table_id }
+        requires moves { Moves K.sort self.now.terms seat.old.weight seat.old.known (λ n. min n x) T.then }
+        ensures kept { seat.new ≡ record seat.old { known = seat.new.known } }
+        ensures told { T.then result seat.new.known }
     {
-        self.table.shared.fetch_min::<Told<T>>(seat, 0, x)
+        self.table.shared.fetch_min::<Told<T>>(&mut seat.seat, 0, x)
     }
 
     /// Ends the board, and gives its word.
     pub fn close(self, seat: Chair<K>) -> u64
-        requires board { seat.table_id ≡ self.table.shared.table_id }
-        requires whole { seat.me.0.weight ≡ self.terms.shares }
-        ensures { Ends K.sort self.terms seat.me.0.known result }
+        requires board { seat.board ≡ self.table.shared.table_id }
+        requires whole { seat.weight ≡ self.terms.shares }
+        ensures { Ends K.sort self.terms seat.known result }
     {
         let Board { table, terms: _ } = self;
+        let Chair { seat } = seat;
         let closed = table.close_with(seat);
         let word = closed.word(0);
         closed.free();

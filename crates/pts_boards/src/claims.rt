@@ -41,7 +41,7 @@ impl Model for Claims {
     ghost invariant = { λ c. (c.board.terms.parts ≤ 1048576) × (c.board.terms.shares ≤ 64) };
 }
 
-/// The right to draw from a board.
+/// The right to draw from a board, with a share of its weight.
 #[derive(Drop)]
 pub struct ClaimSeat {
     chair: Chair<Drawn>,
@@ -49,14 +49,14 @@ pub struct ClaimSeat {
 }
 
 impl Model for ClaimSeat {
-    ghost use Rattle.std.specs.Prelude.{◌≡◌, ◌≤◌, []};
+    ghost use Rattle.std.specs.Prelude.{◌≡◌};
     ghost use Rattle.pts_boards.specs.Seats.{ClaimSeatState};
 
     ghost Value = { ClaimSeatState };
 
-    ghost view = { λ s. record { board = s.chair.table_id; weight = s.chair.me.0.weight; drawn = s.chair.me.0.known.numbers; past = s.past } };
+    ghost view = { λ s. record { board = s.chair.board; weight = s.chair.weight; drawn = s.chair.known.numbers; past = s.past } };
 
-    ghost invariant = { λ s. (s.chair.me.1 ≡ []) × (1 ≤ s.chair.me.0.weight) × (s.chair.me.0.known.past ≡ s.past) };
+    ghost invariant = { λ s. s.chair.known.past ≡ s.past };
 }
 
 impl ClaimSeat {
@@ -69,7 +69,7 @@ impl ClaimSeat {
 }
 
 impl Claims {
-    /// A board of this many parts, and its first seat, which has the whole weight.
+    /// A board of at most 1,048,576 parts, and its first seat, which has the whole weight of 1 to 64 shares. Fails only for want of memory.
     pub fn make(alloc: Global, parts: u64, shares: u32) -> Result<(Claims, ClaimSeat), NoMemory>
         requires few_parts { parts ≤ 1048576 }
         requires some { 1 ≤ shares }

@@ -38,25 +38,22 @@ impl Model for Least {
     ghost view = { λ a. record { id = a.board.table.shared.table_id; shares = a.board.terms.shares } };
 }
 
-/// The right to give numbers, and to ask for the least.
+/// The right to give numbers and to ask for the least, with a share of the board's weight.
 #[derive(Drop)]
 pub struct LeastSeat {
     chair: Chair<Lowered>,
 }
 
 impl Model for LeastSeat {
-    ghost use Rattle.std.specs.Prelude.{◌≡◌, ◌≤◌, []};
     ghost use Rattle.pts_boards.specs.Seats.{LeastSeatState};
 
     ghost Value = { LeastSeatState };
 
-    ghost view = { λ s. record { board = s.chair.table_id; weight = s.chair.me.0.weight; lowered = s.chair.me.0.known.numbers; least = s.chair.me.0.known.least } };
-
-    ghost invariant = { λ s. (s.chair.me.1 ≡ []) × (1 ≤ s.chair.me.0.weight) };
+    ghost view = { λ s. record { board = s.chair.board; weight = s.chair.weight; lowered = s.chair.known.numbers; least = s.chair.known.least } };
 }
 
 impl Least {
-    /// A board with no number, and its first seat, which has the whole weight.
+    /// A board with no number, and its first seat, which has the whole weight of 1 to 64 shares. Fails only for want of memory.
     pub fn make(alloc: Global, shares: u32) -> Result<(Least, LeastSeat), NoMemory>
         requires some { 1 ≤ shares }
         requires few { shares ≤ 64 }

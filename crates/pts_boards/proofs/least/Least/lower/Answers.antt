@@ -5,6 +5,6 @@ use Rattle.pts_boards.proofs.least.Least.lower.Goals as goal
 
 pub lower-requires-clause-moves : goal.lower-requires-clause-moves
 lower-requires-clause-moves c =
-    let me = c.seat.inside.chair.me.0 in
+    let me = c.seat.inside.chair in
     let most : c.args.x ≤ none_lower = omega arith in
     lower_move c.self.inside.board.terms me.weight me.known c.args.x most

@@ -2,4 +2,4 @@ use Rattle.pts_boards.specs.Least.{Tells}
 use Rattle.pts_boards.proofs.least.Least.now.Given as goal
 
 abbrev pub ghosts-load : goal.ghosts-load
-ghosts-load a = record { then = Tells a.seat.now.me.0.known }
+ghosts-load a = record { then = Tells a.seat.now.known }
