@@ -1,11 +1,7 @@
-//! The script language: the first forms of its items.
+//! The script language: reading scripts and printing them.
 #![tactic(auto)]
 
-mod first;
-mod items;
-mod parse;
-mod reader;
+mod reading;
 
-pub use first::{First, FirstArray, FirstFault, FirstStatement};
-pub use parse::{one_script, parse_first};
-pub use pts_tree::Name;
+pub use reading::{SyntaxFault, SyntaxKind, parse};
+pub use pts_print::print;

@@ -6,5 +6,3 @@ pub mod Spelling
 pub mod Expressions
 pub mod Statements
 pub mod Scripts
-pub mod Canonical
-pub mod Printing

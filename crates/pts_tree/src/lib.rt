@@ -1,4 +1,4 @@
-//! The syntax tree of the script language, the signs that spell it, and its canonical printing.
+//! The syntax tree of the script language and the signs that spell it.
 #![tactic(auto)]
 
 mod block;
@@ -8,7 +8,6 @@ mod grammar;
 mod loops;
 mod mark;
 mod name;
-mod printing;
 mod script;
 mod sign;
 mod sum;
@@ -22,7 +21,6 @@ pub use grammar::same_grammar;
 pub use loops::{BodyStmt, Clause, InductClause, Initial, Loop, ReduceClause};
 pub use mark::{Mark, one_mark};
 pub use name::Name;
-pub use printing::print;
 pub use script::{ArrayDecl, ConstDecl, FunctionDecl, Item, Param, Script, Start};
 pub use sign::{Sign, SignKind};
 pub use sum::{Atom, Cell, Range, Sum, SumPart, Val};

@@ -1,0 +1,2 @@
+pub mod SameMarks
+pub mod Loops

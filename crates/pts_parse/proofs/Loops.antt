@@ -1,0 +1,1 @@
+-- Loops over the signs that are left.

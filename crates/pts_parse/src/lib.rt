@@ -1,0 +1,9 @@
+//! The parser: from the signs of a script to its tree.
+#![tactic(auto)]
+
+mod reader;
+mod script;
+mod sums;
+
+pub use reader::Stop;
+pub use script::parse_signs;

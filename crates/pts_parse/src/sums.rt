@@ -1,0 +1,1 @@
+//! Reading sums and what they measure.

@@ -1,0 +1,5 @@
+use Rattle.pts_print.proofs.Chains.{◌▸◌, last}
+use Rattle.pts_print.proofs.printing.items.put_header.Goals as goal
+
+pub returns : goal.returns
+returns c = last c.put_mark-2.result _ _ (c.in_ok-put_mark.ensures ▸ c.in_ok-put_number.ensures) c.put_mark-2.ensures

@@ -1,5 +1,0 @@
-use Rattle.pts_tree.proofs.Chains.{last}
-use Rattle.pts_tree.proofs.printing.expressions.put_throw.Goals as goal
-
-pub returns : goal.returns
-returns c = last c.put_number.result _ _ c.in_ok-put_mark.ensures c.put_number.ensures

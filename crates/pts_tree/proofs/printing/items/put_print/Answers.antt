@@ -1,5 +1,0 @@
-use Rattle.pts_tree.proofs.Chains.{◌▸◌, last}
-use Rattle.pts_tree.proofs.printing.items.put_print.Goals as goal
-
-pub returns : goal.returns
-returns c = last c.put_mark-2.result _ _ (c.in_ok-put_mark.ensures ▸ c.in_ok-put_name.ensures) c.put_mark-2.ensures
