@@ -1,3 +1,4 @@
 pub mod Brackets
 pub mod Promise
 pub mod Reading
+pub mod SumReading

@@ -36,7 +36,7 @@ impl<T: Drop> From<AllocFailed<T>> for Stop {
 }
 
 /// A part and the signs behind it.
-pub type Read<'a, 'b, T> = Result<(T, &'a [Sign<'b>]), Stop>;
+pub type Read<'a, T> = Result<(T, &'a [Sign]), Stop>;
 
 /// The kind of the first sign.
 pub fn ahead(signs: &[Sign]) -> SignKind
@@ -49,7 +49,7 @@ pub fn ahead(signs: &[Sign]) -> SignKind
 }
 
 /// The signs behind the first.
-pub fn past<'a, 'b>(signs: &'a [Sign<'b>]) -> &'a [Sign<'b>]
+pub fn past(signs: &[Sign]) -> &[Sign]
     ensures { result.now ≡ spec.past signs.now }
 {
     match signs {
@@ -70,7 +70,7 @@ pub fn sees(mark: Mark, signs: &[Sign]) -> bool
 }
 
 #[tactic(auto, unfolding(crate::specs::Reading::expect))]
-pub fn expect<'a, 'b>(mark: Mark, signs: &'a [Sign<'b>]) -> Result<&'a [Sign<'b>], Stop>
+pub fn expect(mark: Mark, signs: &[Sign]) -> Result<&[Sign], Stop>
     ensures { Gives (λ x. x.now) result (spec.expect mark signs.now) }
 {
     if sees(mark, signs) {
@@ -81,11 +81,11 @@ pub fn expect<'a, 'b>(mark: Mark, signs: &'a [Sign<'b>]) -> Result<&'a [Sign<'b>
 }
 
 #[tactic(auto, unfolding(crate::specs::Reading::and_then, crate::specs::Reading::open_bracket))]
-pub fn open_bracket<'a, 'b>(
+pub fn open_bracket(
     room: usize,
     mark: Mark,
-    signs: &'a [Sign<'b>],
-) -> Result<&'a [Sign<'b>], Stop>
+    signs: &[Sign],
+) -> Result<&[Sign], Stop>
     ensures value { Gives (λ x. x.now) result (spec.open_bracket room mark signs.now) }
     ensures room { OnOk result (0 < room) }
 {
@@ -97,7 +97,7 @@ pub fn open_bracket<'a, 'b>(
 }
 
 #[tactic(auto, unfolding(crate::specs::Reading::name))]
-pub fn name<'a, 'b>(alloc: Global, signs: &'a [Sign<'b>]) -> Read<'a, 'b, Name>
+pub fn name(alloc: Global, signs: &[Sign]) -> Read<Name>
     ensures { Gives (λ x. (x.0, x.1.now)) result (spec.name signs.now) }
 {
     match signs {
@@ -110,7 +110,7 @@ pub fn name<'a, 'b>(alloc: Global, signs: &'a [Sign<'b>]) -> Read<'a, 'b, Name>
 }
 
 #[tactic(auto, unfolding(crate::specs::Reading::number))]
-pub fn number<'a, 'b>(signs: &'a [Sign<'b>]) -> Read<'a, 'b, u64>
+pub fn number(signs: &[Sign]) -> Read<u64>
     ensures { Gives (λ x. (x.0, x.1.now)) result (spec.number signs.now) }
 {
     match signs {

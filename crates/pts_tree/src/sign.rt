@@ -4,6 +4,7 @@ ghost use Rattle.std.specs.Prelude.{◌≡◌, option_map};
 ghost use Rattle.pts_tree.specs.Signs as spec;
 
 use crate::mark::Mark;
+use crate::name::Name;
 use std::marker::Model;
 
 /// What the grammar asks of a token: its kind, or that there is none.
@@ -19,20 +20,20 @@ pub enum SignKind {
     End,
 }
 
-#[derive(Clone, Copy)]
-enum Content<'a> {
+#[derive(Drop)]
+enum Content {
     Mark(Mark),
-    Name(&'a str),
+    Name(Name),
     Number(u64),
 }
 
 /// A token by what it says: a word or symbol of the language, a name by its text, a number by its value.
 #[derive(Drop)]
-pub struct Sign<'a> {
-    content: Content<'a>,
+pub struct Sign {
+    content: Content,
 }
 
-impl<'a> Model for Sign<'a> {
+impl Model for Sign {
     ghost use Rattle.pts_tree.specs.Signs.{Sign};
     ghost use Rattle.pts_tree.specs.SignViews.{sign_of};
 
@@ -41,9 +42,9 @@ impl<'a> Model for Sign<'a> {
     ghost view = { λ s. sign_of s.content };
 }
 
-impl<'a> Sign<'a> {
+impl Sign {
     /// A word or symbol of the language.
-    pub fn from_mark(mark: Mark) -> Sign<'a>
+    pub fn from_mark(mark: Mark) -> Sign
         ensures { result ≡ spec.Mark mark }
     {
         Sign {
@@ -52,8 +53,8 @@ impl<'a> Sign<'a> {
     }
 
     /// A name.
-    pub fn from_name(name: &'a str) -> Sign<'a>
-        ensures { result ≡ spec.Name name.now }
+    pub fn from_name(name: Name) -> Sign
+        ensures { result ≡ spec.Name name }
     {
         Sign {
             content: Content::Name(name),
@@ -61,7 +62,7 @@ impl<'a> Sign<'a> {
     }
 
     /// A number.
-    pub fn from_number(number: u64) -> Sign<'a>
+    pub fn from_number(number: u64) -> Sign
         ensures { result ≡ spec.Number number }
     {
         Sign {
@@ -73,8 +74,8 @@ impl<'a> Sign<'a> {
     pub fn kind(&self) -> SignKind
         ensures { result ≡ spec.kind_of self.now }
     {
-        match self.content {
-            Content::Mark(mark) => SignKind::Mark(mark),
+        match &self.content {
+            Content::Mark(mark) => SignKind::Mark(*mark),
             Content::Name(_) => SignKind::Name,
             Content::Number(1) => SignKind::One,
             Content::Number(_) => SignKind::Number,
@@ -82,11 +83,11 @@ impl<'a> Sign<'a> {
     }
 
     /// The text of a name; None of any other.
-    pub fn name(&self) -> Option<&'a str>
+    pub fn name(&self) -> Option<&str>
         ensures { option_map (λ text. text.now) result ≡ spec.name_of self.now }
     {
-        match self.content {
-            Content::Name(name) => Some(name),
+        match &self.content {
+            Content::Name(name) => Some(name.as_str()),
             _ => None,
         }
     }
@@ -95,8 +96,8 @@ impl<'a> Sign<'a> {
     pub fn number(&self) -> Option<u64>
         ensures { result ≡ spec.number_of self.now }
     {
-        match self.content {
-            Content::Number(number) => Some(number),
+        match &self.content {
+            Content::Number(number) => Some(*number),
             _ => None,
         }
     }
