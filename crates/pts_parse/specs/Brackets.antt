@@ -29,4 +29,5 @@ abbrev pub beyond : ℕ → List Sign → Option ℕ
 beyond room [] = None
 beyond room (t ∷ ts) = elim (room_behind (kind_of t) room) [
   | None ↦ Some (suc (length ts))
-  | Some left ↦ beyond left ts ]
+  | Some left ↦ beyond left ts
+]

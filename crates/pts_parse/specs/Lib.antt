@@ -2,3 +2,8 @@ pub mod Brackets
 pub mod Promise
 pub mod Reading
 pub mod SumReading
+pub mod CallReading
+pub mod ExprReading
+pub mod LoopReading
+pub mod BlockReading
+pub mod ScriptReading

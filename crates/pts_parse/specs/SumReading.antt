@@ -88,3 +88,7 @@ kind_by _ ts = unexpected ts
 
 unfoldable pub kind : Parser Kind
 kind ts = kind_by (ahead ts) ts
+
+-- NAME ":" kind
+unfoldable pub typed : Parser (List ℕ × Kind)
+typed ts = name ts >>= λ n. expect m.Colon n.1 >>= λ r. kind r >>= λ q. Ok ((n.0, q.0), q.1)

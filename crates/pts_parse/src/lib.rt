@@ -1,6 +1,8 @@
 //! The parser: from the signs of a script to its tree.
 #![tactic(auto)]
 
+mod calls;
+mod expressions;
 mod reader;
 mod script;
 mod sums;

@@ -1,6 +1,6 @@
 //! The steps of reading: what is read is given with the signs that follow it.
 
-ghost use Rattle.std.specs.Prelude.{◌≡◌, ◌<◌, OnOk};
+ghost use Rattle.std.specs.Prelude.{◌≡◌, ◌<◌, ◌∷◌, IfOk, OnOk};
 ghost use Rattle.pts_tree.specs.declared.sign.SignKind.TheVariants as kinds;
 ghost use Rattle.pts_tree.specs.Grammar.{same};
 ghost use Rattle.pts_parse.specs.Reading as spec;
@@ -8,6 +8,7 @@ ghost use Rattle.pts_parse.specs.Reading.{Gives};
 ghost use Rattle.pts_parse.specs.declared.reader.Stop.TheVariants.{NoMemory};
 
 use pts_tree::{Mark, Name, Sign, SignKind};
+use sqlite_items::Items;
 use std::alloc::{AllocError, AllocFailed, Global};
 
 /// Why no part was read: the sign with which so many are left does not go on, or opens a bracket too many, or there was
@@ -81,11 +82,7 @@ pub fn expect(mark: Mark, signs: &[Sign]) -> Result<&[Sign], Stop>
 }
 
 #[tactic(auto, unfolding(crate::specs::Reading::and_then, crate::specs::Reading::open_bracket))]
-pub fn open_bracket(
-    room: usize,
-    mark: Mark,
-    signs: &[Sign],
-) -> Result<&[Sign], Stop>
+pub fn open_bracket(room: usize, mark: Mark, signs: &[Sign]) -> Result<&[Sign], Stop>
     ensures value { Gives (λ x. x.now) result (spec.open_bracket room mark signs.now) }
     ensures room { OnOk result (0 < room) }
 {
@@ -120,4 +117,14 @@ pub fn number(signs: &[Sign]) -> Read<u64>
         },
         [] => Err(Stop::Unexpected(0)),
     }
+}
+
+/// A first element and more behind it.
+pub fn listed<T: Drop>(alloc: Global, first: T, more: Items<T>) -> Result<Items<T>, AllocError>
+    ensures { IfOk result (λ xs. xs ≡ first ∷ more) }
+{
+    let mut all = Items::new(alloc);
+    all.push(first)?;
+    all.append(more)?;
+    Ok(all)
 }

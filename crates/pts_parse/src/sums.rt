@@ -69,12 +69,7 @@ fn sum_parts(alloc: Global, signs: &[Sign]) -> Read<Items<SumPart>>
 
 /// What follows the first atom of a sum.
 #[tactic(auto, unfolding(crate::specs::Reading::and_then, crate::specs::SumReading::sum_behind))]
-pub fn sum_behind(
-    alloc: Global,
-    negative: bool,
-    first: Atom,
-    signs: &[Sign],
-) -> Read<Sum>
+pub fn sum_behind(alloc: Global, negative: bool, first: Atom, signs: &[Sign]) -> Read<Sum>
     ensures { Gives (λ x. (x.0, x.1.now)) result (spec.sum_behind negative first signs.now) }
 {
     let (rest, signs) = sum_parts(alloc, signs)?;

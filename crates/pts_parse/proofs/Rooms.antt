@@ -1,0 +1,30 @@
+-- How an expression is read with room for more brackets, and inside of one more.
+use Rattle.std.proofs.Common.{◌≡◌, ℕ, zero, suc, ◌-◌, ◌<◌, List, refl, ap, ◌∙◌, arith}
+use Rattle.pts_tree.specs.Signs.{Sign}
+use Rattle.pts_tree.specs.declared.expr.Expr.{Expr}
+use Rattle.pts_parse.specs.declared.expressions.Level.{Level}
+use Rattle.pts_parse.specs.declared.expressions.Level.TheVariants as levels
+use Rattle.pts_parse.specs.declared.expressions.Connective.{Connective}
+use Rattle.pts_parse.specs.declared.expressions.Connective.TheVariants as connectives
+use Rattle.pts_parse.specs.Reading.{Parser}
+use Rattle.pts_parse.specs.ExprReading.{expr, expr_of, inner}
+
+pub expr_is : (room : ℕ) (ts : List Sign) → expr room ts ≡ expr_of room (inner room) ts
+unfolding expr inner
+expr_is zero ts = refl
+expr_is (suc room) ts = refl
+
+pub inner_is : (room : ℕ) → 0 < room → inner room ≡ expr (room - 1)
+unfolding expr inner
+inner_is zero h = absurd (omega arith)
+inner_is (suc room) h = let e : suc room - 1 ≡ room = omega arith in rw e refl
+
+-- how far the levels of expressions are from the innermost one, for the measure of their cycle
+abbrev pub connective_rank : Connective → ℕ
+connective_rank connectives.All = 40
+connective_rank connectives.Any = 50
+
+abbrev pub level_rank : Level → ℕ
+level_rank levels.Multiplying = 10
+level_rank levels.Adding = 20
+level_rank levels.Bitwise = 30
