@@ -1,2 +1,3 @@
 pub mod SameMarks
 pub mod Loops
+pub mod Tables
