@@ -1,3 +1,4 @@
 pub mod SameMarks
 pub mod Loops
 pub mod Tables
+pub mod Passes
