@@ -5,8 +5,8 @@ use Rattle.pts_tree.specs.Signs.{Sign, kind_of}
 use Rattle.pts_tree.specs.Grammar.{Rule, Part, Row, One, The, Maybe, Many, rows, has, Among, Matches}
 use Rattle.pts_parse.specs.declared.reader.Stop.{Stop}
 use Rattle.pts_parse.specs.declared.reader.Stop.TheVariants as stops
-use Rattle.pts_parse.specs.Brackets.{beyond}
-use Rattle.pts_parse.specs.Reading.{Read, Parser, and_then, ahead, past}
+use Rattle.pts_parse.specs.Brackets.{room_behind, beyond}
+use Rattle.pts_parse.specs.Reading.{Read, and_then, ahead, unexpected}
 use Rattle.pts_parse.proofs.Tables.{first, begins, least}
 
 -- ---- stopping
@@ -56,9 +56,31 @@ pub data Skips (row : Row) (room room' : ℕ) (Q : List Sign → Type 0) (before
   skips : (after : List Sign) → Q after → Passes row room before room' after → Skips row room room' Q before (Ok after)
   stuck : (e : Stop) → FailsBy row room before e → Skips row room room' Q before (Err e)
 
+-- ---- failing at once
+
+-- a bracket too many is one of the signs
+pub beyond_within : (room : ℕ) (ts : List Sign) → IfSome (beyond room ts) (λ l. l ≤ length ts)
+beyond_within room [] = tt
+beyond_within room (t ∷ ts) = by (room_behind (kind_of t) room) (λ left. beyond_within left ts)
+  where
+    wider : (o : Option ℕ) → IfSome o (λ l. l ≤ length ts) → IfSome o (λ l. l ≤ suc (length ts))
+    wider None h = tt
+    wider (Some l) h = omega arith
+
+    by : (o : Option ℕ) → ((left : ℕ) → IfSome (beyond left ts) (λ l. l ≤ length ts)) → IfSome (elim o [ None ↦ Some (suc (length ts)) | Some left ↦ beyond left ts ]) (λ l. l ≤ suc (length ts))
+    by None go = omega arith
+    by (Some left) go = wider (beyond left ts) (go left)
+
+-- the first sign does not go on
+pub along_unexpected : {A : Type 0} {Q : A → List Sign → Type 0} {row : Row} {room room' : ℕ} {ts : List Sign} → ((more : Row) → Stops false (row ++ more) ts (length ts)) → Along row room room' Q ts (unexpected ts)
+along_unexpected {room = room} {ts = ts} s = fails (stops.Unexpected (length ts)) (at_wrong (length ts) s (beyond_within room ts))
+
+pub skips_unexpected : {Q : List Sign → Type 0} {row : Row} {room room' : ℕ} {ts : List Sign} → ((more : Row) → Stops false (row ++ more) ts (length ts)) → Skips row room room' Q ts (unexpected ts)
+skips_unexpected {room = room} {ts = ts} s = stuck (stops.Unexpected (length ts)) (at_wrong (length ts) s (beyond_within room ts))
+
 -- ---- putting rows together
 
-least-append : (a b : Row) → least (a ++ b) ≡ least a + least b
+pub least-append : (a b : Row) → least (a ++ b) ≡ least a + least b
 least-append [] b = omega arith
 least-append (One ks ∷ a) b = omega (arith, least-append a b)
 least-append (The r ∷ a) b = omega (arith, least-append a b)
@@ -93,14 +115,21 @@ pub along_behind : {A : Type 0} {Q : A → List Sign → Type 0} {room room' roo
 along_behind front row p (reads x after q r) = reads x after q (passes_both front row p r)
 along_behind front row p (fails e f) = fails e (fails_behind front row p f)
 
+-- a step that reads several parts, and what is read behind it, where fewer signs are left
+pub steps_down : {A B : Type 0} {front row : Row} {room room' room'' : ℕ} {QA : A → List Sign → Type 0} {Q : B → List Sign → Type 0} {before : List Sign} {o : Read A} {f : A × List Sign → Read B}
+    → Along front room room' QA before o
+    → ((x : A × List Sign) → QA x.0 x.1 → length x.1 + least front ≤ length before → Along row room' room'' Q x.1 (f x))
+    → Along (front ++ row) room room'' Q before (and_then o f)
+unfolding and_then
+steps_down {front = front} {row = row} (reads x after q p) go = along_behind front row p (go (x, after) q p.takes)
+steps_down {front = front} {row = row} (fails e f) go = fails e (fails_first front row f)
+
 -- a step that reads several parts, and what is read behind it
 pub steps : {A B : Type 0} {front row : Row} {room room' room'' : ℕ} {QA : A → List Sign → Type 0} {Q : B → List Sign → Type 0} {before : List Sign} {o : Read A} {f : A × List Sign → Read B}
     → Along front room room' QA before o
     → ((x : A × List Sign) → QA x.0 x.1 → Along row room' room'' Q x.1 (f x))
     → Along (front ++ row) room room'' Q before (and_then o f)
-unfolding and_then
-steps {front = front} {row = row} (reads x after q p) go = along_behind front row p (go (x, after) q)
-steps {front = front} {row = row} (fails e f) go = fails e (fails_first front row f)
+steps a go = steps_down a (λ x q less. go x q)
 
 -- a step that reads one part, and what is read behind it
 pub step : {A B : Type 0} {p : Part} {row : Row} {room room' room'' : ℕ} {QA : A → List Sign → Type 0} {Q : B → List Sign → Type 0} {before : List Sign} {o : Read A} {f : A × List Sign → Read B}

@@ -150,8 +150,8 @@ abbrev pub apart : List SignKind → List SignKind → Bool
 apart ks others = list_all (λ x. not (has others x)) ks
 
 -- each of these kinds is one of those
-abbrev pub within : List SignKind → List SignKind → Bool
-within ks others = list_all (λ x. has others x) ks
+abbrev pub inside : List SignKind → List SignKind → Bool
+inside ks others = list_all (λ x. has others x) ks
 
 -- the kinds by which a row begins
 abbrev pub begins : Row → List SignKind
@@ -199,7 +199,7 @@ lawful (p ∷ row) = repeats p && apart (goes_on p) (begins row) && lawful row
 -- the kinds by which a row may go on where it could stop are among these
 abbrev pub ends_within : List SignKind → Row → Bool
 ends_within ks [] = true
-ends_within ks (p ∷ row) = (solid row || within (goes_on p) ks) && ends_within ks row
+ends_within ks (p ∷ row) = (solid row || inside (goes_on p) ks) && ends_within ks row
 
 -- rows start apart
 abbrev pub rows_apart : List Row → Bool
@@ -208,7 +208,7 @@ rows_apart (row ∷ others) = list_all (λ other. apart (begins row) (begins oth
 
 -- an alternative is one of this rule by the tables
 abbrev pub row_fits : Rule → Row → Bool
-row_fits r row = solid row && within (begins row) (first r) && lawful row && ends_within (tail r) row
+row_fits r row = solid row && inside (begins row) (first r) && lawful row && ends_within (tail r) row
 
 abbrev pub rows_fit : Rule → List Row → Bool
 rows_fit r opened = rows_apart opened && list_all (row_fits r) opened && not (has (first r) k.End)
