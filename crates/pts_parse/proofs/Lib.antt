@@ -5,3 +5,5 @@ pub mod KindFacts
 pub mod Passes
 pub mod Choices
 pub mod SingleSigns
+pub mod LawfulRows
+pub mod Lookahead
