@@ -7,3 +7,4 @@ pub mod Choices
 pub mod SingleSigns
 pub mod LawfulRows
 pub mod Lookahead
+pub mod Fronts
