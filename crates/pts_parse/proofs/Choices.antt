@@ -1,17 +1,14 @@
 -- Reading along a rule by one of its alternatives, and along parts that are optional or repeated.
-use Rattle.std.proofs.Common.{◌≡◌, ℕ, zero, suc, ◌+◌, ◌≤◌, ◌⊎◌, inl, inr, Bool, true, false, ◌&&◌, ◌||◌, not, if◌then◌else◌, List, [], ◌∷◌, ◌++◌, length, Option, Some, None, Result, Ok, Err, refl, sym, subst, ◌∙◌, ap, arith, append_assoc}
+use Rattle.std.proofs.Common.{◌≡◌, ◌∙◌, ℕ, zero, suc, ◌≤◌, inl, inr, Bool, true, false, ◌&&◌, ◌||◌, not, List, [], ◌∷◌, ◌++◌, length, Option, Some, None, refl, sym, arith, append_assoc}
 use Rattle.std.specs.List.{list_all}
 use Rattle.pts_tree.specs.declared.sign.SignKind.{SignKind}
-use Rattle.pts_tree.specs.declared.sign.SignKind.TheVariants as k
-use Rattle.pts_tree.specs.Signs.{Sign, kind_of}
-use Rattle.pts_tree.specs.Grammar.{Rule, Part, Row, One, The, Maybe, Many, rows, same, has, Among, Matches, opens, without, with_it, no_more, one_more}
-use Rattle.pts_parse.specs.declared.reader.Stop.{Stop}
+use Rattle.pts_tree.specs.Signs.{Sign}
+use Rattle.pts_tree.specs.Grammar.{Rule, Row, The, Maybe, Many, rows, same, has, Among, Matches, opens, without, with_it, no_more, one_more}
 use Rattle.pts_parse.specs.declared.reader.Stop.TheVariants as stops
-use Rattle.pts_parse.specs.Brackets.{beyond}
-use Rattle.pts_parse.specs.Reading.{Read, Parser, and_then, ahead, past, unexpected, many, each_of, optional}
+use Rattle.pts_parse.specs.Reading.{Read, Parser, ahead, unexpected, many, each_of, optional}
 use Rattle.pts_parse.proofs.Tables.{first, begins, least, apart, rows_apart}
-use Rattle.pts_parse.proofs.KindFacts.{and_both, not_so, clash, has_apart, has_inside, each_among, fit, apart_rows, no_end, least_of_solid}
-use Rattle.pts_parse.proofs.Passes.{Alone, NoneBegins, Stops, none_chosen, chosen, left_out, put_in, no_further, one_further, Passes, FailsBy, at_wrong, at_bracket, Along, reads, fails, along_unexpected, least-append, steps_down, step, done}
+use Rattle.pts_parse.proofs.KindFacts.{and_both, not_so, clash, has_apart, each_among, fit, apart_rows, no_end, least_of_solid}
+use Rattle.pts_parse.proofs.Passes.{Alone, NoneBegins, Stops, none_chosen, chosen, left_out, put_in, no_further, one_further, at_wrong, at_bracket, Along, reads, fails, along_unexpected, least-append, steps_down, step, done, test_along}
 
 -- ---- one row leads to another
 
@@ -21,7 +18,8 @@ pub record Leads (from to : Row) (ts : List Sign) : Type 0 where
   pub matches : (v : Bool) (more : Row) → Matches rows v (to ++ more) ts → Matches rows v (from ++ more) ts
   pub takes : least from ≤ least to
 
-pub along_leads : {A : Type 0} {Q : A → List Sign → Type 0} {from to : Row} {room room' : ℕ} {ts : List Sign} {o : Read A} → Leads from to ts → Along to room room' Q ts o → Along from room room' Q ts o
+pub along_leads : {A : Type 0} {Q : A → List Sign → Type 0} {from to : Row} {room room' : ℕ} {ts : List Sign} {o : Read A} → Leads from to ts
+    → Along to room room' Q ts o → Along from room room' Q ts o
 along_leads {from = from} {to = to} l (reads x after q p) = reads x after q (record {
     stops = λ w more left s. l.stops w more left (p.stops w more left s);
     matches = λ v more h. l.matches v more (p.matches v more h);
@@ -76,7 +74,8 @@ among_by zero (row ∷ others) x h = inl refl
 among_by (suc n) (row ∷ others) x h = inr (among_by n others x h)
 
 -- where rows start apart, one of them begins by a kind
-alone_by : (n : ℕ) (alternatives : List Row) (x : SignKind) → rows_apart alternatives ≡ true → has (begins (pick n alternatives)) x ≡ true → Alone (pick n alternatives) alternatives x
+alone_by : (n : ℕ) (alternatives : List Row) (x : SignKind) → rows_apart alternatives ≡ true → has (begins (pick n alternatives)) x ≡ true
+    → Alone (pick n alternatives) alternatives x
 alone_by n [] x a h other i = absurd i
 alone_by zero (row ∷ others) x a h other (inl p) = inl p
 alone_by zero (row ∷ others) x a h other (inr i) =
@@ -147,11 +146,10 @@ pub optional_along : {A : Type 0} {QA : A → List Sign → Type 0} {Q : Option 
     (r : Rule) (part : Parser A) → SeesRule r sees → Along (The r ∷ []) room room QA ts (part ts) → Q None ts → ((x : A) (after : List Sign) → QA x after → Q (Some x) after)
     → Along (Maybe r ∷ []) room room Q ts (optional sees part ts)
 unfolding optional
-optional_along {Q = Q} {room = room} {sees = sees} {ts = ts} r part agrees a none some = by (sees (ahead ts)) (agrees (ahead ts))
-  where
-    by : (b : Bool) → b ≡ has (first r) (ahead ts) → Along (Maybe r ∷ []) room room Q ts (if b then and_then (part ts) (λ x. Ok (Some x.0, x.1)) else Ok (None, ts))
-    by false e = without_part r (sym e) (done none)
-    by true e = with_part r (sym e) (step a (λ x q. done (some x.0 x.1 q)))
+optional_along {sees = sees} {ts = ts} r part agrees a none some =
+    test_along (sees (ahead ts))
+      (λ e. with_part r (sym (agrees (ahead ts)) ∙ e) (step a (λ x q. done (some x.0 x.1 q))))
+      (λ e. without_part r (sym (agrees (ahead ts)) ∙ e) (done none))
 
 -- a part as often as the first sign says that one follows
 pub many_along : {A : Type 0} {room : ℕ} {sees : SignKind → Bool} {part : Parser A}
@@ -163,13 +161,11 @@ pub many_along : {A : Type 0} {room : ℕ} {sees : SignKind → Bool} {part : Pa
 unfolding many
 many_along QA Q r agrees a none more zero [] l = without_more r (no_end r) (done (none []))
 many_along QA Q r agrees a none more zero (t ∷ ts) l = absurd (omega arith)
-many_along {room = room} {sees = sees} {part = part} QA Q r agrees a none more (suc n) ts l =
-    by (sees (ahead ts)) (agrees (ahead ts)) (λ us less. many_along QA Q r agrees a none more n us less)
-  where
-    by : (b : Bool) → b ≡ has (first r) (ahead ts) → ((us : List Sign) → length us ≤ n → Along (Many r ∷ []) room room (Q us) us (many sees part n us))
-        → Along (Many r ∷ []) room room (Q ts) ts (if b then and_then (part ts) (λ x. and_then (many sees part n x.1) (λ xs. Ok (x.0 ∷ xs.0, xs.1))) else Ok ([], ts))
-    by false e go = without_more r (sym e) (done (none ts))
-    by true e go = with_more r (sym e) (steps_down (a ts) (λ x q less. step (go x.1 (omega arith)) (λ xs qs. done (more x.0 xs.0 ts x.1 xs.1 q qs))))
+many_along {sees = sees} QA Q r agrees a none more (suc n) ts l =
+    test_along (sees (ahead ts))
+      (λ e. with_more r (sym (agrees (ahead ts)) ∙ e) (
+        steps_down (a ts) (λ x q less. step (many_along QA Q r agrees a none more n x.1 (omega arith)) (λ xs qs. done (more x.0 xs.0 ts x.1 xs.1 q qs)))))
+      (λ e. without_more r (sym (agrees (ahead ts)) ∙ e) (done (none ts)))
 
 pub all_along : {A : Type 0} {room : ℕ} {sees : SignKind → Bool} {part : Parser A}
     (QA : List Sign → A → List Sign → Type 0) (Q : List Sign → List A → List Sign → Type 0) (r : Rule) → SeesRule r sees

@@ -1,7 +1,7 @@
 -- Beginnings part by part: signs that begin a row spell its first parts whole and begin the rest, or only begin the first parts.
 use Rattle.std.proofs.Common.{◌≡◌, ◌↔◌, Bool, true, false, List, [], ◌∷◌, ◌++◌, refl, sym, subst, ◌∙◌, ap, append_assoc, append-nil, true≢false}
 use Rattle.pts_tree.specs.Signs.{Sign}
-use Rattle.pts_tree.specs.Grammar.{Rule, Part, Row, One, The, Maybe, Many, rows, Matches, whole, ends, sign, opens, without, with_it, no_more, one_more, Begins, IsPhrase}
+use Rattle.pts_tree.specs.Grammar.{Rule, Part, Row, One, The, Maybe, Many, rows, Matches, whole, ends, sign, opens, without, with_it, no_more, one_more}
 
 -- signs that spell or begin a row and what follows it: some of them spell the row whole and the others the rest, or all of them only begin the row
 pub data Split (rules : Rule → List Row) (row more : Row) (v : Bool) (ts : List Sign) : Type 0 where
@@ -18,11 +18,13 @@ carry rules from to more v ts f (in_two front back e p q) = in_two front back e 
 carry rules from to more v ts f (in_first b p) = in_first b (f false ts p)
 
 -- one sign more in front
-behind_sign : (rules : Rule → List Row) (row to more : Row) (v : Bool) (t : Sign) (ts : List Sign) → ((u : Bool) (us : List Sign) → Matches rules u row us → Matches rules u to (t ∷ us)) → Split rules row more v ts → Split rules to more v (t ∷ ts)
+behind_sign : (rules : Rule → List Row) (row to more : Row) (v : Bool) (t : Sign) (ts : List Sign)
+    → ((u : Bool) (us : List Sign) → Matches rules u row us → Matches rules u to (t ∷ us)) → Split rules row more v ts → Split rules to more v (t ∷ ts)
 behind_sign rules row to more v t ts f (in_two front back e p q) = in_two (t ∷ front) back (ap (λ us. t ∷ us) e) (f true front p) q
 behind_sign rules row to more v t ts f (in_first b p) = in_first b (f false ts p)
 
-split_by : (rules : Rule → List Row) (v : Bool) (whole_row : Row) (ts : List Sign) → Matches rules v whole_row ts → (row more : Row) → whole_row ≡ row ++ more → Split rules row more v ts
+split_by : (rules : Rule → List Row) (v : Bool) (whole_row : Row) (ts : List Sign) → Matches rules v whole_row ts → (row more : Row) → whole_row ≡ row ++ more
+    → Split rules row more v ts
 unfolding Carries
 split_by rules v w ts m [] more e = in_two [] ts refl whole (subst (λ z. Matches rules v z ts) e m)
 split_by rules _ _ _ whole (p ∷ row) more e = absurd (cc)
@@ -66,7 +68,8 @@ begins_longer rules v _ more ts (no_more {row = row} m) b = no_more (begins_long
 begins_longer rules v _ more ts (one_more {r = r} {row = row} m) b = one_more (begins_longer rules v (The r ∷ Many r ∷ row) more ts m b)
 
 -- the whole of a row, and what follows it
-join_whole : (rules : Rule → List Row) (u v : Bool) (row more : Row) (front back : List Sign) → Matches rules u row front → u ≡ true → Matches rules v more back → Matches rules v (row ++ more) (front ++ back)
+join_whole : (rules : Rule → List Row) (u v : Bool) (row more : Row) (front back : List Sign) → Matches rules u row front → u ≡ true → Matches rules v more back
+    → Matches rules v (row ++ more) (front ++ back)
 join_whole rules _ v _ more _ back whole b q = q
 join_whole rules _ v row more _ back ends b q = absurd (true≢false (sym b))
 join_whole rules u v _ more _ back (sign {row = row} {ts = ts} h m) b q = sign h (join_whole rules u v row more ts back m b q)

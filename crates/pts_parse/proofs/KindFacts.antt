@@ -1,6 +1,6 @@
 -- Kinds of signs and lists of them, and what the tables say of the alternatives of a rule.
-use Rattle.std.proofs.Common.{◌≡◌, ℕ, zero, suc, ◌≤◌, ◌⊎◌, inl, inr, Bool, true, false, ◌&&◌, ◌||◌, not, List, [], ◌∷◌, ◌++◌, refl, sym, ap, subst, ◌∙◌, true≢false, arith, rules}
-use Rattle.std.specs.List.{list_any, list_all}
+use Rattle.std.proofs.Common.{◌≡◌, ◌≤◌, ◌⊎◌, inl, inr, Bool, true, false, ◌&&◌, ◌||◌, not, List, [], ◌∷◌, refl, sym, ap, subst, ◌∙◌, true≢false, arith, rules}
+use Rattle.std.specs.List.{list_all}
 use denote.Enum.Bare.{same_true}
 use Rattle.pts_tree.specs.contracts.mark.Mark.{the_type}
 use Rattle.pts_tree.specs.declared.mark.Mark.{Mark}
@@ -8,7 +8,7 @@ use Rattle.pts_tree.specs.declared.sign.SignKind.{SignKind}
 use Rattle.pts_tree.specs.declared.sign.SignKind.TheVariants as k
 use Rattle.pts_tree.specs.Grammar.{Rule, Row, One, The, Maybe, Many, rows, same, has, Among}
 use Rattle.pts_parse.proofs.SameMarks.{same_marks}
-use Rattle.pts_parse.proofs.Tables.{first, tail, begins, least, solid, lawful, inside, apart, ends_within, row_fits, rows_fit, rows_apart, fits}
+use Rattle.pts_parse.proofs.Tables.{first, tail, begins, least, solid, lawful, inside, apart, ends_within, row_fits, rows_apart, fits}
 
 -- ---- truth
 

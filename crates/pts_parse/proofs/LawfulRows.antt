@@ -1,16 +1,12 @@
 -- By which kinds rows begin, and rows whose parts start apart from what follows them.
-use Rattle.std.proofs.Common.{◌≡◌, ℕ, zero, suc, ◌+◌, ◌-◌, ◌<◌, ◌≤◌, ◌⊎◌, inl, inr, Bool, true, false, ◌&&◌, ◌||◌, not, List, [], ◌∷◌, ◌++◌, length, take, drop, refl, sym, subst, ◌∙◌, ap, arith, append-nil, take-append-drop, length-drop, true≢false}
-use Rattle.std.specs.List.{list_any, list_all}
+use Rattle.std.proofs.Common.{◌≡◌, ◌<◌, ◌⊎◌, inl, inr, Bool, true, false, ◌&&◌, ◌||◌, List, [], ◌∷◌, ◌++◌, length, refl, sym, ◌∙◌, arith}
 use Rattle.std.proofs.lemmas.List.Folds.{list_any-append, list_all-append}
 use Rattle.pts_tree.specs.declared.sign.SignKind.{SignKind}
-use Rattle.pts_tree.specs.declared.sign.SignKind.TheVariants as k
-use Rattle.pts_tree.specs.Marks.{place}
-use Rattle.pts_tree.specs.Signs.{Sign, kind_of}
-use Rattle.pts_tree.specs.Grammar.{Rule, Part, Row, One, The, Maybe, Many, rows, same, has, Among, Matches, whole, ends, sign, opens, without, with_it, no_more, one_more, IsPhrase, IsViable}
+use Rattle.pts_tree.specs.Signs.{Sign}
+use Rattle.pts_tree.specs.Grammar.{Rule, Part, Row, One, The, Maybe, Many, rows, same, has, Among, Matches, whole, ends, sign, opens, without, with_it, no_more, one_more}
 use Rattle.pts_parse.specs.Reading.{ahead}
 use Rattle.pts_parse.proofs.Tables.{first, tail, begins, solid, apart, inside, goes_on, repeats, lawful, ends_within}
-use Rattle.pts_parse.proofs.KindFacts.{and_both, or_either, clash, has_apart, has_inside, fit, no_end}
-use Rattle.pts_parse.proofs.Passes.{Alone, NoneBegins, Stops, wrong_sign, right_sign, next_sign, none_chosen, chosen, left_out, put_in, no_further, one_further, too_many}
+use Rattle.pts_parse.proofs.KindFacts.{and_both, or_either, clash, has_apart, has_inside, fit}
 
 -- ---- by which kinds rows begin
 

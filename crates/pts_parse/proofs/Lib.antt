@@ -8,3 +8,4 @@ pub mod SingleSigns
 pub mod LawfulRows
 pub mod Lookahead
 pub mod Fronts
+pub mod Endings

@@ -1,15 +1,13 @@
 -- Reading by the next sign alone stops at the right sign: the signs before it begin the row, and with it they begin none.
-use Rattle.std.proofs.Common.{◌≡◌, ℕ, zero, suc, ◌+◌, ◌-◌, ◌<◌, ◌≤◌, ◌⊎◌, inl, inr, Bool, true, false, List, [], ◌∷◌, ◌++◌, length, take, drop, refl, sym, subst, ◌∙◌, ap, arith, append-nil, take-append-drop, length-drop, true≢false}
+use Rattle.std.proofs.Common.{◌≡◌, ℕ, suc, ◌-◌, ◌<◌, ◌≤◌, ◌⊎◌, inl, inr, Bool, true, false, List, [], ◌∷◌, ◌++◌, length, take, drop, refl, sym, subst, arith, append-nil, take-append-drop, length-drop, true≢false}
 use Rattle.pts_tree.specs.declared.sign.SignKind.{SignKind}
-use Rattle.pts_tree.specs.declared.sign.SignKind.TheVariants as k
-use Rattle.pts_tree.specs.Marks.{place}
 use Rattle.pts_tree.specs.Signs.{Sign, kind_of}
-use Rattle.pts_tree.specs.Grammar.{Rule, Part, Row, One, The, Maybe, Many, rows, has, Among, Matches, whole, ends, sign, opens, without, with_it, no_more, one_more, IsPhrase, IsViable}
+use Rattle.pts_tree.specs.Grammar.{Rule, Row, One, The, Maybe, Many, rows, has, Among, Matches, whole, ends, sign, opens, without, with_it, no_more, one_more, IsPhrase, IsViable}
 use Rattle.pts_parse.specs.Reading.{ahead}
-use Rattle.pts_parse.proofs.Tables.{first, tail, begins, solid, lawful}
+use Rattle.pts_parse.proofs.Tables.{first, tail, begins, solid}
 use Rattle.pts_parse.proofs.KindFacts.{clash, fit, no_end}
 use Rattle.pts_parse.proofs.LawfulRows.{starts, opened_begins, Lawful, lawful_of, lawful_opened, lawful_again}
-use Rattle.pts_parse.proofs.Passes.{Alone, NoneBegins, Stops, wrong_sign, right_sign, next_sign, none_chosen, chosen, left_out, put_in, no_further, one_further, too_many}
+use Rattle.pts_parse.proofs.Passes.{Stops, wrong_sign, right_sign, next_sign, none_chosen, chosen, left_out, put_in, no_further, one_further, too_many}
 
 -- ---- the place
 
@@ -105,14 +103,17 @@ Far v us left = (length us < left) ⊎ ((v ≡ true) × (us ≡ []))
 from_sign : (v : Bool) (ks : List SignKind) (row : Row) (t : Sign) (ts : List Sign) → Matches rows v (One ks ∷ row) (t ∷ ts) → Matches rows v row ts
 from_sign v ks row t ts (sign h p) = p
 
-from_rule : (v : Bool) (r : Rule) (row : Row) (t : Sign) (ts : List Sign) → Matches rows v (The r ∷ row) (t ∷ ts) → (opened : Row) × Among opened (rows r) × Matches rows v (opened ++ row) (t ∷ ts)
+from_rule : (v : Bool) (r : Rule) (row : Row) (t : Sign) (ts : List Sign) → Matches rows v (The r ∷ row) (t ∷ ts)
+    → (opened : Row) × Among opened (rows r) × Matches rows v (opened ++ row) (t ∷ ts)
 from_rule v r row t ts (opens opened i p) = (opened, i, p)
 
-from_maybe : (v : Bool) (r : Rule) (row : Row) (t : Sign) (ts : List Sign) → Matches rows v (Maybe r ∷ row) (t ∷ ts) → Matches rows v row (t ∷ ts) ⊎ Matches rows v (The r ∷ row) (t ∷ ts)
+from_maybe : (v : Bool) (r : Rule) (row : Row) (t : Sign) (ts : List Sign) → Matches rows v (Maybe r ∷ row) (t ∷ ts)
+    → Matches rows v row (t ∷ ts) ⊎ Matches rows v (The r ∷ row) (t ∷ ts)
 from_maybe v r row t ts (without p) = inl p
 from_maybe v r row t ts (with_it p) = inr p
 
-from_many : (v : Bool) (r : Rule) (row : Row) (t : Sign) (ts : List Sign) → Matches rows v (Many r ∷ row) (t ∷ ts) → Matches rows v row (t ∷ ts) ⊎ Matches rows v (The r ∷ Many r ∷ row) (t ∷ ts)
+from_many : (v : Bool) (r : Rule) (row : Row) (t : Sign) (ts : List Sign) → Matches rows v (Many r ∷ row) (t ∷ ts)
+    → Matches rows v row (t ∷ ts) ⊎ Matches rows v (The r ∷ Many r ∷ row) (t ∷ ts)
 from_many v r row t ts (no_more p) = inl p
 from_many v r row t ts (one_more p) = inr p
 
@@ -121,7 +122,8 @@ never_empty : (row : Row) (ts : List Sign) (left : ℕ) → Stops false row ts l
 never_empty row ts left s v (inl l) p = absurd (omega (arith, left_within false row ts left s))
 never_empty row ts left s v (inr b) p = clash (stops_solid row ts left s b.1) (hollow v row [] p b.0 refl)
 
-pub never : (row : Row) (ts : List Sign) (left : ℕ) → Stops false row ts left → Lawful row → (v : Bool) (ps us : List Sign) → ts ≡ ps ++ us → Far v us left → Matches rows v row ps → ⊥
+pub never : (row : Row) (ts : List Sign) (left : ℕ) → Stops false row ts left → Lawful row → (v : Bool) (ps us : List Sign) → ts ≡ ps ++ us → Far v us left
+    → Matches rows v row ps → ⊥
 never row ts left s l v [] us e far p = never_empty row ts left s v (subst (λ xs. Far v xs left) (sym e) far) p
 never _ ts _ (wrong_sign {ks = ks} {row = row} h) l v (x ∷ ps) us e far p =
     clash (starts v (One ks ∷ row) (x ∷ ps) p (omega arith)) (subst (λ xs. has ks (ahead xs) ≡ false) e h)

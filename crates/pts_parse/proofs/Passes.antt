@@ -1,5 +1,5 @@
 -- Reading along a row by the next sign alone: where it stops, what it passes, and how the steps of reading are put together.
-use Rattle.std.proofs.Common.{◌≡◌, ℕ, zero, suc, ◌+◌, ◌≤◌, ◌⊎◌, Bool, true, false, List, [], ◌∷◌, ◌++◌, length, Option, Some, None, Result, Ok, Err, IfSome, refl, sym, subst, ◌∙◌, ap, arith, append_assoc}
+use Rattle.std.proofs.Common.{◌≡◌, ℕ, suc, ◌+◌, ◌≤◌, ◌⊎◌, Bool, true, false, if◌then◌else◌, List, [], ◌∷◌, ◌++◌, length, Option, Some, None, Result, Ok, Err, IfSome, refl, sym, subst, ◌∙◌, arith, append_assoc}
 use Rattle.pts_tree.specs.declared.sign.SignKind.{SignKind}
 use Rattle.pts_tree.specs.Signs.{Sign, kind_of}
 use Rattle.pts_tree.specs.Grammar.{Rule, Part, Row, One, The, Maybe, Many, rows, has, Among, Matches}
@@ -72,10 +72,12 @@ beyond_within room (t ∷ ts) = by (room_behind (kind_of t) room) (λ left. beyo
     by (Some left) go = wider (beyond left ts) (go left)
 
 -- the first sign does not go on
-pub along_unexpected : {A : Type 0} {Q : A → List Sign → Type 0} {row : Row} {room room' : ℕ} {ts : List Sign} → ((more : Row) → Stops false (row ++ more) ts (length ts)) → Along row room room' Q ts (unexpected ts)
+pub along_unexpected : {A : Type 0} {Q : A → List Sign → Type 0} {row : Row} {room room' : ℕ} {ts : List Sign}
+    → ((more : Row) → Stops false (row ++ more) ts (length ts)) → Along row room room' Q ts (unexpected ts)
 along_unexpected {room = room} {ts = ts} s = fails (stops.Unexpected (length ts)) (at_wrong (length ts) s (beyond_within room ts))
 
-pub skips_unexpected : {Q : List Sign → Type 0} {row : Row} {room room' : ℕ} {ts : List Sign} → ((more : Row) → Stops false (row ++ more) ts (length ts)) → Skips row room room' Q ts (unexpected ts)
+pub skips_unexpected : {Q : List Sign → Type 0} {row : Row} {room room' : ℕ} {ts : List Sign} → ((more : Row) → Stops false (row ++ more) ts (length ts))
+    → Skips row room room' Q ts (unexpected ts)
 skips_unexpected {room = room} {ts = ts} s = stuck (stops.Unexpected (length ts)) (at_wrong (length ts) s (beyond_within room ts))
 
 -- ---- putting rows together
@@ -91,7 +93,8 @@ pub passes_nothing : (room : ℕ) (ts : List Sign) → Passes [] room ts room ts
 passes_nothing room ts = record { stops = λ w more left s. s; matches = λ v more h. h; takes = omega arith; within = refl }
 
 -- one row passed behind another
-pub passes_both : {room room' room'' : ℕ} {before mid after : List Sign} (front row : Row) → Passes front room before room' mid → Passes row room' mid room'' after → Passes (front ++ row) room before room'' after
+pub passes_both : {room room' room'' : ℕ} {before mid after : List Sign} (front row : Row) → Passes front room before room' mid → Passes row room' mid room'' after
+    → Passes (front ++ row) room before room'' after
 passes_both {before = before} front row p q = record {
     stops = λ w more left s. rw (append_assoc front row more) (p.stops w (row ++ more) left (q.stops w more left s));
     matches = λ v more h. rw (append_assoc front row more) (p.matches v (row ++ more) (q.matches v more h));
@@ -104,7 +107,8 @@ fails_first front row (at_wrong left s b) = at_wrong left (λ more. rw (append_a
 fails_first front row (at_bracket left s b) = at_bracket left (λ more. rw (append_assoc front row more) (s (row ++ more))) b
 
 -- a fault behind a first part that was passed
-pub fails_behind : {room room' : ℕ} {before mid : List Sign} {e : Stop} (front row : Row) → Passes front room before room' mid → FailsBy row room' mid e → FailsBy (front ++ row) room before e
+pub fails_behind : {room room' : ℕ} {before mid : List Sign} {e : Stop} (front row : Row) → Passes front room before room' mid → FailsBy row room' mid e
+    → FailsBy (front ++ row) room before e
 fails_behind front row p (at_wrong left s b) =
     at_wrong left (λ more. rw (append_assoc front row more) (p.stops false (row ++ more) left (s more))) (subst (λ o. IfSome o (λ l. l ≤ left)) (sym p.within) b)
 fails_behind front row p (at_bracket left s b) = at_bracket left (λ more. rw (append_assoc front row more) (p.stops true (row ++ more) left (s more))) (p.within ∙ b)
@@ -162,3 +166,9 @@ pub last : {A : Type 0} {row : Row} {room room' : ℕ} {QA Q : A → List Sign �
     → Along row room room' QA before o → ((x : A) (after : List Sign) → QA x after → Q x after) → Along row room room' Q before o
 last (reads x after q p) go = reads x after (go x after q) p
 last (fails e f) go = fails e f
+
+-- what is read goes by a test
+pub test_along : {A : Type 0} {Q : A → List Sign → Type 0} {row : Row} {room room' : ℕ} {ts : List Sign} {one other : Read A}
+    (b : Bool) → (b ≡ true → Along row room room' Q ts one) → (b ≡ false → Along row room room' Q ts other) → Along row room room' Q ts (if b then one else other)
+test_along true f g = f refl
+test_along false f g = g refl

@@ -1,6 +1,6 @@
 -- The kinds of signs by which each rule begins, and those by which it may go on where it could stop; and that the next sign tells which alternative goes on.
-use Rattle.std.proofs.Common.{◌≡◌, ℕ, zero, suc, ◌+◌, Bool, true, false, ◌&&◌, ◌||◌, not, List, [], ◌∷◌, ◌++◌, map, refl}
-use Rattle.std.specs.List.{list_any, list_all}
+use Rattle.std.proofs.Common.{◌≡◌, ℕ, suc, Bool, true, false, ◌&&◌, ◌||◌, not, List, [], ◌∷◌, ◌++◌, map, refl}
+use Rattle.std.specs.List.{list_all}
 use Rattle.pts_tree.specs.declared.mark.Mark.{Mark}
 use Rattle.pts_tree.specs.declared.mark.Mark.TheVariants as m
 use Rattle.pts_tree.specs.declared.sign.SignKind.{SignKind}
