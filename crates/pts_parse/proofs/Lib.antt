@@ -9,3 +9,4 @@ pub mod LawfulRows
 pub mod Lookahead
 pub mod Fronts
 pub mod Endings
+pub mod SumsAlong
