@@ -1,3 +1,13 @@
 pub mod SameMarks
 pub mod Loops
 pub mod Rooms
+pub mod Tables
+pub mod KindFacts
+pub mod Passes
+pub mod Choices
+pub mod SingleSigns
+pub mod LawfulRows
+pub mod Lookahead
+pub mod Fronts
+pub mod Endings
+pub mod SumsAlong
