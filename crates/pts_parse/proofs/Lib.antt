@@ -1,6 +1,7 @@
 pub mod SameMarks
 pub mod Loops
 pub mod Rooms
+pub mod Joining
 pub mod Tables
 pub mod KindFacts
 pub mod Passes

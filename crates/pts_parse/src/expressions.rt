@@ -73,7 +73,7 @@ fn member(alloc: Global, which: Connective, room: usize, signs: &[Sign]) -> Read
 }
 
 #[cycle(expressions)]
-#[tactic(auto, unfolding(crate::specs::Reading::and_then, crate::specs::ExprReading::members_of))]
+#[tactic(auto, using(crate::proofs::Joining::members_read), unfolding(crate::specs::Reading::and_then, crate::specs::ExprReading::members_of))]
 fn members(alloc: Global, which: Connective, room: usize, signs: &[Sign]) -> Read<Expr>
     ensures { Gives (λ x. (x.0, x.1.now)) result (spec.members which room (spec.inner room) signs.now) }
 {
@@ -126,7 +126,7 @@ fn compared(alloc: Global, room: usize, signs: &[Sign]) -> Read<Expr>
 }
 
 #[cycle(expressions)]
-#[tactic(auto, unfolding(crate::specs::Reading::and_then, crate::specs::ExprReading::chain_of))]
+#[tactic(auto, using(crate::proofs::Joining::chain_read), unfolding(crate::specs::Reading::and_then, crate::specs::ExprReading::chain_of))]
 fn chain(alloc: Global, level: Level, room: usize, signs: &[Sign]) -> Read<Expr>
     ensures { Gives (λ x. (x.0, x.1.now)) result (spec.chain level room (spec.inner room) signs.now) }
 {
