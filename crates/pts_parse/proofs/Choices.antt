@@ -21,10 +21,11 @@ pub record Leads (from to : Row) (ts : List Sign) : Type 0 where
 pub along_leads : {A : Type 0} {Q : A → List Sign → Type 0} {from to : Row} {room room' : ℕ} {ts : List Sign} {o : Read A} → Leads from to ts
     → Along to room room' Q ts o → Along from room room' Q ts o
 along_leads {from = from} {to = to} l (reads x after q p) = reads x after q (record {
-    stops = λ w more left s. l.stops w more left (p.stops w more left s);
-    matches = λ v more h. l.matches v more (p.matches v more h);
-    takes = omega (arith, l.takes, p.takes);
-    within = p.within })
+  stops = λ w more left s. l.stops w more left (p.stops w more left s);
+  matches = λ v more h. l.matches v more (p.matches v more h);
+  takes = omega (arith, l.takes, p.takes);
+  within = p.within;
+})
 along_leads l (fails _ (at_wrong left s b)) = fails (stops.Unexpected left) (at_wrong left (λ more. l.stops false more left (s more)) b)
 along_leads l (fails _ (at_bracket left s b)) = fails (stops.Nesting left) (at_bracket left (λ more. l.stops true more left (s more)) b)
 
@@ -32,9 +33,10 @@ along_leads l (fails _ (at_bracket left s b)) = fails (stops.Nesting left) (at_b
 
 leads_chosen : {ts : List Sign} (r : Rule) (opened row : Row) → Among opened (rows r) → Alone opened (rows r) (ahead ts) → Leads (The r ∷ row) (opened ++ row) ts
 leads_chosen r opened row i a = record {
-    stops = λ w more left s. chosen opened i a (rw (append_assoc opened row more) at s);
-    matches = λ v more h. opens opened i (rw (append_assoc opened row more) at h);
-    takes = omega (arith, least-append opened row, least_of_solid opened (fit r opened i).filled) }
+  stops = λ w more left s. chosen opened i a (rw (append_assoc opened row more) at s);
+  matches = λ v more h. opens opened i (rw (append_assoc opened row more) at h);
+  takes = omega (arith, least-append opened row, least_of_solid opened (fit r opened i).filled);
+}
 
 -- the alternative at this place
 abbrev pub pick : ℕ → List Row → Row
@@ -85,7 +87,7 @@ alone_by (suc n) (row ∷ others) x a h other (inl p) = inr (rw p (by (has (begi
     by : (b : Bool) → has (begins row) x ≡ b → b ≡ false
     by false e = refl
     by true e = clash h (has_apart (begins row) (begins (pick n others)) x
-      (each_among (λ o. apart (begins row) (begins o)) others (pick n others) (and_both (list_all (λ o. apart (begins row) (begins o)) others) (rows_apart others) a).0 (among_by n others x h)) e)
+        (each_among (λ o. apart (begins row) (begins o)) others (pick n others) (and_both (list_all (λ o. apart (begins row) (begins o)) others) (rows_apart others) a).0 (among_by n others x h)) e)
 alone_by (suc n) (row ∷ others) x a h other (inr i) = alone_by n others x (and_both (list_all (λ o. apart (begins row) (begins o)) others) (rows_apart others) a).1 h other i
 
 -- a rule with one alternative
@@ -148,8 +150,8 @@ pub optional_along : {A : Type 0} {QA : A → List Sign → Type 0} {Q : Option 
 unfolding optional
 optional_along {sees = sees} {ts = ts} r part agrees a none some =
     test_along (sees (ahead ts))
-      (λ e. with_part r (sym (agrees (ahead ts)) ∙ e) (step a (λ x q. done (some x.0 x.1 q))))
-      (λ e. without_part r (sym (agrees (ahead ts)) ∙ e) (done none))
+    (λ e. with_part r (sym (agrees (ahead ts)) ∙ e) (step a (λ x q. done (some x.0 x.1 q))))
+    (λ e. without_part r (sym (agrees (ahead ts)) ∙ e) (done none))
 
 -- a part as often as the first sign says that one follows
 pub many_along : {A : Type 0} {room : ℕ} {sees : SignKind → Bool} {part : Parser A}
@@ -163,9 +165,9 @@ many_along QA Q r agrees a none more zero [] l = without_more r (no_end r) (done
 many_along QA Q r agrees a none more zero (t ∷ ts) l = absurd (omega arith)
 many_along {sees = sees} QA Q r agrees a none more (suc n) ts l =
     test_along (sees (ahead ts))
-      (λ e. with_more r (sym (agrees (ahead ts)) ∙ e) (
-        steps_down (a ts) (λ x q less. step (many_along QA Q r agrees a none more n x.1 (omega arith)) (λ xs qs. done (more x.0 xs.0 ts x.1 xs.1 q qs)))))
-      (λ e. without_more r (sym (agrees (ahead ts)) ∙ e) (done (none ts)))
+    (λ e. with_more r (sym (agrees (ahead ts)) ∙ e) (
+    steps_down (a ts) (λ x q less. step (many_along QA Q r agrees a none more n x.1 (omega arith)) (λ xs qs. done (more x.0 xs.0 ts x.1 xs.1 q qs)))))
+    (λ e. without_more r (sym (agrees (ahead ts)) ∙ e) (done (none ts)))
 
 pub all_along : {A : Type 0} {room : ℕ} {sees : SignKind → Bool} {part : Parser A}
     (QA : List Sign → A → List Sign → Type 0) (Q : List Sign → List A → List Sign → Type 0) (r : Rule) → SeesRule r sees

@@ -31,7 +31,7 @@ too_many_left : (row : Row) (room room' : ℕ) (ts : List Sign) (t : Sign) (afte
     → Fault row room ts (stops.Unexpected (suc (length after)))
 too_many_left row room room' ts t after p =
     wrong_here (suc (length after)) (rw (append-nil row) at (p.stops false [] (suc (length after)) too_many))
-      (subst (λ o. IfSome o (λ l. l ≤ suc (length after))) (sym p.within) (beyond_within room' (t ∷ after)))
+    (subst (λ o. IfSome o (λ l. l ≤ suc (length after))) (sym p.within) (beyond_within room' (t ∷ after)))
 
 -- what reads a row and then sees to it that no sign is left
 pub whole_along : {A B : Type 0} {row : Row} {room room' : ℕ} {QA : A → List Sign → Type 0} {Q : B → Type 0} {ts : List Sign} {o : Read A}

@@ -36,7 +36,7 @@ split_by rules v _ ts (opens {r = r} {row = w} opened among m) (p ∷ row) more 
     let i : The r ≡ p = cc in
     let j : w ≡ row ++ more = cc in
     carry rules (opened ++ row) (p ∷ row) more v ts (λ u us q. subst (λ z. Matches rules u (z ∷ row) us) i (opens opened among q))
-      (split_by rules v (opened ++ w) ts m (opened ++ row) more (ap (λ z. opened ++ z) j ∙ sym (append_assoc opened row more)))
+    (split_by rules v (opened ++ w) ts m (opened ++ row) more (ap (λ z. opened ++ z) j ∙ sym (append_assoc opened row more)))
 split_by rules v _ ts (without {r = r} {row = w} m) (p ∷ row) more e =
     let i : Maybe r ≡ p = cc in
     carry rules row (p ∷ row) more v ts (λ u us q. subst (λ z. Matches rules u (z ∷ row) us) i (without q)) (split_by rules v w ts m row more (cc))
@@ -51,7 +51,7 @@ split_by rules v _ ts (one_more {r = r} {row = w} m) (p ∷ row) more e =
     let i : Many r ≡ p = cc in
     let j : w ≡ row ++ more = cc in
     carry rules (The r ∷ Many r ∷ row) (p ∷ row) more v ts (λ u us q. subst (λ z. Matches rules u (z ∷ row) us) i (one_more q))
-      (split_by rules v (The r ∷ Many r ∷ w) ts m (The r ∷ Many r ∷ row) more (ap (λ z. The r ∷ Many r ∷ z) j))
+    (split_by rules v (The r ∷ Many r ∷ w) ts m (The r ∷ Many r ∷ row) more (ap (λ z. The r ∷ Many r ∷ z) j))
 
 pub split : (rules : Rule → List Row) (v : Bool) (row more : Row) (ts : List Sign) → Matches rules v (row ++ more) ts → Split rules row more v ts
 split rules v row more ts m = split_by rules v (row ++ more) ts m row more refl

@@ -102,8 +102,9 @@ lawful_of (Many r ∷ row) e =
 apart_join : (kinds ks : List SignKind) (o row : Row) → Apart kinds (begins o) → (solid o || inside kinds ks) ≡ true → Apart ks (begins row) → Apart kinds (begins (o ++ row))
 apart_join kinds ks o row a e b x h g =
     elim (begins_either o row x g) [
-    | inl f ↦ a x h f
-    | inr s ↦ b x (elim (or_either (solid o) (inside kinds ks) e) [ inl f ↦ clash f s.0 | inr f ↦ has_inside kinds ks x f h ]) s.1 ]
+      | inl f ↦ a x h f
+      | inr s ↦ b x (elim (or_either (solid o) (inside kinds ks) e) [ inl f ↦ clash f s.0 | inr f ↦ has_inside kinds ks x f h ]) s.1
+    ]
 
 inside_left : (a b ks : List SignKind) → inside (a ++ b) ks ≡ true → inside a ks ≡ true
 inside_left a b ks e = (and_both (inside a ks) (inside b ks) (sym (list_all-append (λ x. has ks x) a b) ∙ e)).0
@@ -127,16 +128,18 @@ lawful_join ks (The r ∷ o) row l e a m =
     let b = and_both (solid o || inside (tail r) ks) (ends_within ks o) e in
     (apart_join (tail r) ks o row l.0 b.0 a, lawful_join ks o row l.1 (and_both (solid o || inside (tail r) ks) (ends_within ks o) e).1 a m)
 lawful_join ks (Maybe r ∷ o) row l e a m =
-    let b = and_both (solid o || inside (first r ++ tail r) ks) (ends_within ks o) e in
-    ( apart_join (first r) ks o row l.0 (or_maps (solid o) (inside (first r ++ tail r) ks) (inside (first r) ks) (inside_left (first r) (tail r) ks) b.0) a
-    , apart_join (tail r) ks o row l.1 (or_maps (solid o) (inside (first r ++ tail r) ks) (inside (tail r) ks) (inside_right (first r) (tail r) ks) b.0) a
-    , lawful_join ks o row l.2 (and_both (solid o || inside (first r ++ tail r) ks) (ends_within ks o) e).1 a m )
+    let b = and_both (solid o || inside (first r ++ tail r) ks) (ends_within ks o) e in (
+      apart_join (first r) ks o row l.0 (or_maps (solid o) (inside (first r ++ tail r) ks) (inside (first r) ks) (inside_left (first r) (tail r) ks) b.0) a,
+      apart_join (tail r) ks o row l.1 (or_maps (solid o) (inside (first r ++ tail r) ks) (inside (tail r) ks) (inside_right (first r) (tail r) ks) b.0) a,
+      lawful_join ks o row l.2 (and_both (solid o || inside (first r ++ tail r) ks) (ends_within ks o) e).1 a m,
+    )
 lawful_join ks (Many r ∷ o) row l e a m =
-    let b = and_both (solid o || inside (first r ++ tail r) ks) (ends_within ks o) e in
-    ( l.0
-    , apart_join (first r) ks o row l.1 (or_maps (solid o) (inside (first r ++ tail r) ks) (inside (first r) ks) (inside_left (first r) (tail r) ks) b.0) a
-    , apart_join (tail r) ks o row l.2 (or_maps (solid o) (inside (first r ++ tail r) ks) (inside (tail r) ks) (inside_right (first r) (tail r) ks) b.0) a
-    , lawful_join ks o row l.3 (and_both (solid o || inside (first r ++ tail r) ks) (ends_within ks o) e).1 a m )
+    let b = and_both (solid o || inside (first r ++ tail r) ks) (ends_within ks o) e in (
+      l.0,
+      apart_join (first r) ks o row l.1 (or_maps (solid o) (inside (first r ++ tail r) ks) (inside (first r) ks) (inside_left (first r) (tail r) ks) b.0) a,
+      apart_join (tail r) ks o row l.2 (or_maps (solid o) (inside (first r ++ tail r) ks) (inside (tail r) ks) (inside_right (first r) (tail r) ks) b.0) a,
+      lawful_join ks o row l.3 (and_both (solid o || inside (first r ++ tail r) ks) (ends_within ks o) e).1 a m,
+    )
 
 pub lawful_opened : (r : Rule) (opened row : Row) → Among opened (rows r) → Lawful (The r ∷ row) → Lawful (opened ++ row)
 lawful_opened r opened row i l =

@@ -1,5 +1,5 @@
 pub mod SameMarks
-pub mod Loops
+pub mod Repeats
 pub mod Rooms
 pub mod Joining
 pub mod Tables

@@ -135,24 +135,29 @@ never _ ts _ (none_chosen {r = r} {row = row} f) l v (x ∷ ps) us e far p =
 never _ ts left (chosen {r = r} {row = row} opened i a s) l v (x ∷ ps) us e far p =
     let o = from_rule v r row x ps p in
     elim (a o.0 o.1) [
-    | inl q ↦ never (opened ++ row) ts left s (lawful_opened r opened row i l) v (x ∷ ps) us e far (subst (λ z. Matches rows v (z ++ row) (x ∷ ps)) q o.2)
-    | inr f ↦ clash (opened_begins r o.0 row (kind_of x) o.1 (starts v (o.0 ++ row) (x ∷ ps) o.2 (omega arith))) (subst (λ xs. has (begins o.0) (ahead xs) ≡ false) e f) ]
+      | inl q ↦ never (opened ++ row) ts left s (lawful_opened r opened row i l) v (x ∷ ps) us e far (subst (λ z. Matches rows v (z ++ row) (x ∷ ps)) q o.2)
+      | inr f ↦ clash (opened_begins r o.0 row (kind_of x) o.1 (starts v (o.0 ++ row) (x ∷ ps) o.2 (omega arith))) (subst (λ xs. has (begins o.0) (ahead xs) ≡ false) e f)
+    ]
 never _ ts left (left_out {r = r} {row = row} h s) l v (x ∷ ps) us e far p =
     elim (from_maybe v r row x ps p) [
-    | inl q ↦ never row ts left s l.2 v (x ∷ ps) us e far q
-    | inr q ↦ clash (starts v (The r ∷ row) (x ∷ ps) q (omega arith)) (subst (λ xs. has (first r) (ahead xs) ≡ false) e h) ]
+      | inl q ↦ never row ts left s l.2 v (x ∷ ps) us e far q
+      | inr q ↦ clash (starts v (The r ∷ row) (x ∷ ps) q (omega arith)) (subst (λ xs. has (first r) (ahead xs) ≡ false) e h)
+    ]
 never _ ts left (put_in {r = r} {row = row} h s) l v (x ∷ ps) us e far p =
     elim (from_maybe v r row x ps p) [
-    | inl q ↦ l.0 (kind_of x) (subst (λ xs. has (first r) (ahead xs) ≡ true) e h) (starts v row (x ∷ ps) q (omega arith))
-    | inr q ↦ never (The r ∷ row) ts left s (l.1, l.2) v (x ∷ ps) us e far q ]
+      | inl q ↦ l.0 (kind_of x) (subst (λ xs. has (first r) (ahead xs) ≡ true) e h) (starts v row (x ∷ ps) q (omega arith))
+      | inr q ↦ never (The r ∷ row) ts left s (l.1, l.2) v (x ∷ ps) us e far q
+    ]
 never _ ts left (no_further {r = r} {row = row} h s) l v (x ∷ ps) us e far p =
     elim (from_many v r row x ps p) [
-    | inl q ↦ never row ts left s l.3 v (x ∷ ps) us e far q
-    | inr q ↦ clash (starts v (The r ∷ Many r ∷ row) (x ∷ ps) q (omega arith)) (subst (λ xs. has (first r) (ahead xs) ≡ false) e h) ]
+      | inl q ↦ never row ts left s l.3 v (x ∷ ps) us e far q
+      | inr q ↦ clash (starts v (The r ∷ Many r ∷ row) (x ∷ ps) q (omega arith)) (subst (λ xs. has (first r) (ahead xs) ≡ false) e h)
+    ]
 never _ ts left (one_further {r = r} {row = row} h s) l v (x ∷ ps) us e far p =
     elim (from_many v r row x ps p) [
-    | inl q ↦ l.1 (kind_of x) (subst (λ xs. has (first r) (ahead xs) ≡ true) e h) (starts v row (x ∷ ps) q (omega arith))
-    | inr q ↦ never (The r ∷ Many r ∷ row) ts left s (lawful_again r row l) v (x ∷ ps) us e far q ]
+      | inl q ↦ l.1 (kind_of x) (subst (λ xs. has (first r) (ahead xs) ≡ true) e h) (starts v row (x ∷ ps) q (omega arith))
+      | inr q ↦ never (The r ∷ Many r ∷ row) ts left s (lawful_again r row l) v (x ∷ ps) us e far q
+    ]
 never _ _ _ (too_many {t = t} {ts = ts}) l v (x ∷ ps) us e far p = clash (starts v [] (x ∷ ps) p (omega arith)) refl
 
 -- ---- scripts
@@ -176,9 +181,10 @@ wrong_at ts left s =
       within = within;
       before = viable false (The Rule.script ∷ []) ts left s;
       wrong = λ l p. never (The Rule.script ∷ []) ts left s script_lawful false (take (suc (length ts - left)) ts) (drop (suc (length ts - left)) ts)
-        (sym (take-append-drop (suc (length ts - left)) ts)) (inl (omega (arith, length-drop (suc (length ts - left)) ts))) p;
+          (sym (take-append-drop (suc (length ts - left)) ts)) (inl (omega (arith, length-drop (suc (length ts - left)) ts))) p;
       beyond_it = λ v ps us e l p. never (The Rule.script ∷ []) ts left s script_lawful v ps us e (inl l) p;
-      no_phrase = λ p. never (The Rule.script ∷ []) ts left s script_lawful true ts [] (sym (append-nil ts)) (inr (refl, refl)) p }
+      no_phrase = λ p. never (The Rule.script ∷ []) ts left s script_lawful true ts [] (sym (append-nil ts)) (inr (refl, refl)) p;
+    }
 
 -- the same where reading stops at a sign that goes on
 pub record RightAt (ts : List Sign) (left : ℕ) : Type 0 where
@@ -188,6 +194,7 @@ pub record RightAt (ts : List Sign) (left : ℕ) : Type 0 where
 
 pub right_at : (ts : List Sign) (left : ℕ) → Stops true (The Rule.script ∷ []) ts left → RightAt ts left
 right_at ts left s = record {
-    within = left_within true (The Rule.script ∷ []) ts left s;
-    some_left = left_positive (The Rule.script ∷ []) ts left s;
-    viable_with = viable true (The Rule.script ∷ []) ts left s }
+  within = left_within true (The Rule.script ∷ []) ts left s;
+  some_left = left_positive (The Rule.script ∷ []) ts left s;
+  viable_with = viable true (The Rule.script ∷ []) ts left s;
+}

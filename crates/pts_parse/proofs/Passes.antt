@@ -96,10 +96,11 @@ passes_nothing room ts = record { stops = λ w more left s. s; matches = λ v mo
 pub passes_both : {room room' room'' : ℕ} {before mid after : List Sign} (front row : Row) → Passes front room before room' mid → Passes row room' mid room'' after
     → Passes (front ++ row) room before room'' after
 passes_both {before = before} front row p q = record {
-    stops = λ w more left s. rw (append_assoc front row more) (p.stops w (row ++ more) left (q.stops w more left s));
-    matches = λ v more h. rw (append_assoc front row more) (p.matches v (row ++ more) (q.matches v more h));
-    takes = omega (arith, p.takes, q.takes, least-append front row);
-    within = p.within ∙ q.within }
+  stops = λ w more left s. rw (append_assoc front row more) (p.stops w (row ++ more) left (q.stops w more left s));
+  matches = λ v more h. rw (append_assoc front row more) (p.matches v (row ++ more) (q.matches v more h));
+  takes = omega (arith, p.takes, q.takes, least-append front row);
+  within = p.within ∙ q.within;
+}
 
 -- a fault in the first part of a row
 pub fails_first : {room : ℕ} {before : List Sign} {e : Stop} (front row : Row) → FailsBy front room before e → FailsBy (front ++ row) room before e

@@ -7,7 +7,10 @@ use Rattle.pts_parse.specs.declared.expressions.Level.TheVariants as levels
 use Rattle.pts_parse.specs.declared.expressions.Connective.{Connective}
 use Rattle.pts_parse.specs.declared.expressions.Connective.TheVariants as connectives
 use Rattle.pts_parse.specs.Reading.{Parser}
+use Rattle.pts_tree.specs.declared.loops.BodyStmt.{BodyStmt}
+use Rattle.pts_parse.specs.Reading.{each_of}
 use Rattle.pts_parse.specs.ExprReading.{expr, expr_of, inner}
+use Rattle.pts_parse.specs.LoopReading.{bstmts, bstmt_of, sees_bstmt, inner_bstmts}
 
 pub expr_is : (room : ℕ) (ts : List Sign) → expr room ts ≡ expr_of room (inner room) ts
 unfolding expr inner
@@ -28,3 +31,15 @@ abbrev pub level_rank : Level → ℕ
 level_rank levels.Multiplying = 10
 level_rank levels.Adding = 20
 level_rank levels.Bitwise = 30
+
+-- ---- statements of a body
+
+pub bstmts_is : (room : ℕ) (ts : List Sign) → bstmts room ts ≡ each_of sees_bstmt (bstmt_of room (inner_bstmts room)) ts
+unfolding bstmts inner_bstmts
+bstmts_is zero ts = refl
+bstmts_is (suc room) ts = refl
+
+pub inner_bstmts_is : (room : ℕ) → 0 < room → inner_bstmts room ≡ bstmts (room - 1)
+unfolding bstmts inner_bstmts
+inner_bstmts_is zero h = absurd (omega arith)
+inner_bstmts_is (suc room) h = let e : suc room - 1 ≡ room = omega arith in rw e refl

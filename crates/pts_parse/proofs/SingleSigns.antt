@@ -48,10 +48,11 @@ beyond_at room t ts e = ap (λ o. elim o [ None ↦ Some (suc (length ts)) | Som
 pub passes_sign : {room room' : ℕ} (ks : List SignKind) (t : Sign) (ts : List Sign) → has ks (kind_of t) ≡ true → room_behind (kind_of t) room ≡ Some room'
     → Passes (One ks ∷ []) room (t ∷ ts) room' ts
 passes_sign {room = room} {room' = room'} ks t ts h e = record {
-    stops = λ w more left s. next_sign h s;
-    matches = λ v more p. g.sign h p;
-    takes = omega arith;
-    within = beyond_past room room' t ts e }
+  stops = λ w more left s. next_sign h s;
+  matches = λ v more p. g.sign h p;
+  takes = omega arith;
+  within = beyond_past room room' t ts e;
+}
 
 -- reading goes on behind a sign that was looked at
 pub behind : {A : Type 0} {Q : A → List Sign → Type 0} {row : Row} {room room' room'' : ℕ} {ks : List SignKind} {o : Read A}
@@ -95,7 +96,7 @@ expect_along {room = room} {room' = room'} n ts b = by (same (k.Mark n) (ahead t
     here h e =
         let i = mark_ahead n ts e in
         skips (past ts) i (subst (λ us. Passes (g.mark n ∷ []) room us room' (past ts)) (sym i)
-          (passes_sign (k.Mark n ∷ []) (Mark n) (past ts) (has_one (k.Mark n) (k.Mark n) true (subst (λ x. same (k.Mark n) x ≡ true) e h)) b))
+        (passes_sign (k.Mark n ∷ []) (Mark n) (past ts) (has_one (k.Mark n) (k.Mark n) true (subst (λ x. same (k.Mark n) x ≡ true) e h)) b))
 
     by : (s : Bool) → same (k.Mark n) (ahead ts) ≡ s → Skips (g.mark n ∷ []) room room' (λ after. ts ≡ Mark n ∷ after) ts (if s then Ok (past ts) else unexpected ts)
     by true e = here e (sym (one_kind (k.Mark n) (ahead ts) e))
@@ -120,9 +121,9 @@ opens_too_many n ts b = by (same (k.Mark n) (ahead ts)) refl
     here h e =
         let i = mark_ahead n ts e in
         subst (λ us. Skips (g.mark n ∷ []) 0 0 (λ after. (us ≡ Mark n ∷ after) × (0 < 0)) us (Err (stops.Nesting (length us)))) (sym i)
-          (stuck (stops.Nesting (suc (length (past ts)))) (at_bracket (suc (length (past ts)))
-            (λ more. right_sign (has_one (k.Mark n) (k.Mark n) true (subst (λ x. same (k.Mark n) x ≡ true) e h)))
-            (beyond_at 0 (Mark n) (past ts) b)))
+        (stuck (stops.Nesting (suc (length (past ts)))) (at_bracket (suc (length (past ts)))
+        (λ more. right_sign (has_one (k.Mark n) (k.Mark n) true (subst (λ x. same (k.Mark n) x ≡ true) e h)))
+        (beyond_at 0 (Mark n) (past ts) b)))
 
     by : (s : Bool) → same (k.Mark n) (ahead ts) ≡ s → Skips (g.mark n ∷ []) 0 0 (λ after. (ts ≡ Mark n ∷ after) × (0 < 0)) ts
         (and_then (if s then Ok (past ts) else unexpected ts) (λ rest. Err (stops.Nesting (length ts))))

@@ -53,7 +53,7 @@ pub sum_parts_along : {room : ℕ} (ts : List Sign) → Along (Many Rule.sum_par
 unfolding sum_parts
 sum_parts_along ts =
     all_along (Spelled spelling.sum_part) (Spelled (spelling.each spelling.sum_part)) Rule.sum_part goes_on_by (λ us. sum_part_along us) (λ us. refl)
-      (λ x xs before mid after q qs. q ∙ ap (spelling.sum_part x) qs) ts
+    (λ x xs before mid after q qs. q ∙ ap (spelling.sum_part x) qs) ts
 
 -- what follows the sign of a sum
 sum_from_along : {room : ℕ} (negative : Bool) (ts : List Sign)
@@ -65,9 +65,9 @@ pub sum_along : {room : ℕ} (ts : List Sign) → Along (The Rule.sum ∷ []) ro
 unfolding sum rows first place
 sum_along ts =
     test_along (same (k.Mark m.MinusSign) (ahead ts))
-      (λ e. alone Rule.sum refl (with_part Rule.minus (sym (sees_one (k.Mark m.MinusSign) (ahead ts)) ∙ e) (alone Rule.minus refl (
-        behind m.MinusSign ts (mark_seen m.MinusSign ts e) refl refl (λ i. last (sum_from_along true (past ts)) (λ x after q. i ∙ q))))))
-      (λ e. alone Rule.sum refl (without_part Rule.minus (sym (sees_one (k.Mark m.MinusSign) (ahead ts)) ∙ e) (sum_from_along false ts)))
+    (λ e. alone Rule.sum refl (with_part Rule.minus (sym (sees_one (k.Mark m.MinusSign) (ahead ts)) ∙ e) (alone Rule.minus refl (
+    behind m.MinusSign ts (mark_seen m.MinusSign ts e) refl refl (λ i. last (sum_from_along true (past ts)) (λ x after q. i ∙ q))))))
+    (λ e. alone Rule.sum refl (without_part Rule.minus (sym (sees_one (k.Mark m.MinusSign) (ahead ts)) ∙ e) (sum_from_along false ts)))
 
 pub index_along : (room : ℕ) (ts : List Sign)
     → Along (g.mark m.OpenBracket ∷ The Rule.sum ∷ g.mark m.CloseBracket ∷ []) room room (λ x after. ts ≡ Mark m.OpenBracket ∷ spelling.sum x (Mark m.CloseBracket ∷ after)) ts (index room ts)
@@ -107,7 +107,7 @@ range_along room ts =
     step (sum_along u) (λ high v.
     skip (close_along m.CloseBracket room high.1 (λ left. refl) q.1) (λ after w.
     done (p ∙ ap (λ us. Name n.0 ∷ us) (q.0 ∙ ap (λ us. Mark m.OpenBracket ∷ us) (s ∙ ap (spelling.sum low.0)
-      (t ∙ ap (λ us. Mark m.Range ∷ us) (v ∙ ap (spelling.sum high.0) w))))))))))))
+    (t ∙ ap (λ us. Mark m.Range ∷ us) (v ∙ ap (spelling.sum high.0) w))))))))))))
 
 kind_by_along : {room : ℕ} (x : SignKind) (ts : List Sign) → ahead ts ≡ x
     → Along (The Rule.kind ∷ []) room room (Spelled (λ y. spelling.word (spelling.kind y)) ts) ts (kind_by x ts)

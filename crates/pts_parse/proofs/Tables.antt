@@ -17,7 +17,7 @@ kinds_of ms = map (λ n. k.Mark n) ms
 abbrev pub call_words : List SignKind
 call_words =
     kinds_of (m.ForEach ∷ m.Transform ∷ m.FindIf ∷ m.CountIf ∷ m.Reduce ∷ m.TransformReduce ∷ m.InclusiveScan ∷ m.ExclusiveScan
-      ∷ m.TransformInclusiveScan ∷ m.TransformExclusiveScan ∷ [])
+    ∷ m.TransformInclusiveScan ∷ m.TransformExclusiveScan ∷ [])
 
 abbrev pub first_of_rstmt : List SignKind
 first_of_rstmt = k.Name ∷ kinds_of (m.Throw ∷ m.ForLoop ∷ m.TaskBlock ∷ []) ++ call_words

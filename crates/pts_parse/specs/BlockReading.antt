@@ -10,7 +10,7 @@ use Rattle.pts_tree.specs.declared.block.Block.{Block}
 use Rattle.pts_parse.specs.Reading.{Read, Parser, ◌>>=◌, ahead, past, unexpected, expect, open_bracket, number, each_of}
 use Rattle.pts_parse.specs.SumReading.{cell}
 use Rattle.pts_parse.specs.CallReading.{call}
-use Rattle.pts_parse.specs.LoopReading.{value, loop}
+use Rattle.pts_parse.specs.LoopReading.{value, loop_behind}
 
 -- the statements inside of one more brace, by whether they stand directly in a `run`
 abbrev pub Inside : Type 0
@@ -35,7 +35,7 @@ block_of room tasks ts = braced_tasks false room tasks ts >>= λ xs. Ok (record 
 abbrev pub rstmt_by : SignKind → ℕ → Inside → Parser TaskStmt
 rstmt_by k.Name room tasks ts = assign_cell room ts
 rstmt_by (k.Mark m.Throw) room tasks ts = throw_stmt (past ts)
-rstmt_by (k.Mark m.ForLoop) room tasks ts = loop room (past ts) >>= λ x. Ok (t.Loop x.0, x.1)
+rstmt_by (k.Mark m.ForLoop) room tasks ts = loop_behind room (past ts) >>= λ x. Ok (t.Loop x.0, x.1)
 rstmt_by (k.Mark m.TaskBlock) room tasks ts = block_of room tasks (past ts) >>= λ x. Ok (t.Block x.0, x.1)
 rstmt_by _ room tasks ts = call room ts >>= λ x. Ok (t.Call x.0, x.1)
 

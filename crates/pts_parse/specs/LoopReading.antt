@@ -213,7 +213,7 @@ unfoldable pub bounds : Parser ((Sum × Sum) × Option Sum)
 bounds ts = sum ts >>= λ low. expect m.To low.1 >>= λ r. sum r >>= λ high. step high.1 >>= λ d. Ok (((low.0, high.0), d.0), d.1)
 
 -- policy NAME "=" sum "to" sum optional("step" sum) clause* "{" bstmt* "}" behind "for_loop"
-unfoldable pub loop : ℕ → Parser Loop
-loop room ts =
+unfoldable pub loop_behind : ℕ → Parser Loop
+loop_behind room ts =
     loop_head ts >>= λ h. bounds h.1 >>= λ x. clauses_of room x.1 >>= λ cs. body room cs.1 >>= λ xs.
     Ok (record { policy = h.0.0; index = h.0.1; low = x.0.0.0; high = x.0.0.1; step = x.0.1; clauses = cs.0; body = xs.0 }, xs.1)

@@ -18,7 +18,7 @@ use Rattle.pts_parse.specs.Reading.{Read, Parser, ◌>>=◌, ahead, past, unexpe
 use Rattle.pts_parse.specs.SumReading.{sum, val, index, kind, typed}
 use Rattle.pts_parse.specs.CallReading.{call}
 use Rattle.pts_parse.specs.ExprReading.{sees_comma}
-use Rattle.pts_parse.specs.LoopReading.{value, loop}
+use Rattle.pts_parse.specs.LoopReading.{value, loop_behind}
 use Rattle.pts_parse.specs.BlockReading.{block, sees_call}
 
 -- ---- declarations, behind their word
@@ -103,7 +103,7 @@ abbrev pub item_by : SignKind → ℕ → Parser Item
 item_by (k.Mark m.Const) room ts = const_decl (past ts)
 item_by (k.Mark m.Array) room ts = array_decl room (past ts)
 item_by (k.Mark m.Function) room ts = function_decl room (past ts)
-item_by (k.Mark m.ForLoop) room ts = loop room (past ts) >>= λ x. Ok (items.Loop x.0, x.1)
+item_by (k.Mark m.ForLoop) room ts = loop_behind room (past ts) >>= λ x. Ok (items.Loop x.0, x.1)
 item_by (k.Mark m.TaskBlock) room ts = block room (past ts) >>= λ x. Ok (items.Block x.0, x.1)
 item_by (k.Mark m.Print) room ts = print (past ts)
 item_by _ room ts = call room ts >>= λ x. Ok (items.Call x.0, x.1)

@@ -83,7 +83,7 @@ fn members(alloc: Global, which: Connective, room: usize, signs: &[Sign]) -> Rea
 }
 
 #[cycle(expressions)]
-#[tactic(auto, using(crate::proofs::Loops::loops), unfolding(crate::specs::ExprReading::next_members))]
+#[tactic(auto, using(crate::proofs::Repeats::loops), unfolding(crate::specs::ExprReading::next_members))]
 fn next_members(alloc: Global, which: Connective, room: usize, signs: &[Sign]) -> Read<Items<Expr>>
     ensures { Gives (λ x. (x.0, x.1.now)) result (spec.next_members which (spec.member which room (spec.inner room)) signs.now) }
 {
@@ -136,7 +136,7 @@ fn chain(alloc: Global, level: Level, room: usize, signs: &[Sign]) -> Read<Expr>
 }
 
 #[cycle(expressions)]
-#[tactic(auto, using(crate::proofs::Loops::loops), unfolding(crate::specs::ExprReading::chain_parts))]
+#[tactic(auto, using(crate::proofs::Repeats::loops), unfolding(crate::specs::ExprReading::chain_parts))]
 fn chain_parts(alloc: Global, level: Level, room: usize, signs: &[Sign]) -> Read<Items<ChainPart>>
     ensures { Gives (λ x. (x.0, x.1.now)) result (spec.chain_parts level (spec.operand level room (spec.inner room)) signs.now) }
 {
@@ -285,7 +285,7 @@ fn arguments(alloc: Global, room: usize, signs: &[Sign]) -> Read<Items<Expr>>
 }
 
 #[cycle(expressions)]
-#[tactic(auto, using(crate::proofs::Loops::loops), unfolding(crate::specs::ExprReading::next_arguments))]
+#[tactic(auto, using(crate::proofs::Repeats::loops), unfolding(crate::specs::ExprReading::next_arguments))]
 fn next_arguments(alloc: Global, room: usize, signs: &[Sign]) -> Read<Items<Expr>>
     ensures { Gives (λ x. (x.0, x.1.now)) result (spec.next_arguments (spec.expr room) signs.now) }
 {
@@ -311,10 +311,10 @@ fn next_argument(alloc: Global, room: usize, signs: &[Sign]) -> Read<Expr>
     expr(alloc, room, rest)
 }
 
-// An expression between two brackets.
+/// An expression between two brackets.
 #[cycle(expressions)]
 #[tactic(auto, using(crate::proofs::Rooms::inner_is), unfolding(crate::specs::Reading::and_then, crate::specs::ExprReading::enclosed))]
-fn enclosed(alloc: Global, before: Mark, after: Mark, room: usize, signs: &[Sign]) -> Read<Expr>
+pub fn enclosed(alloc: Global, before: Mark, after: Mark, room: usize, signs: &[Sign]) -> Read<Expr>
     ensures { Gives (λ x. (x.0, x.1.now)) result (spec.enclosed before after room (spec.inner room) signs.now) }
 {
     let rest = open_bracket(room, before, signs)?;

@@ -3,6 +3,7 @@
 
 mod calls;
 mod expressions;
+mod loops;
 mod reader;
 mod script;
 mod sums;

@@ -5,7 +5,7 @@ ghost use Rattle.pts_parse.specs.Reading.{ahead, Gives};
 ghost use Rattle.pts_parse.specs.SumReading as spec;
 
 use crate::reader::{Read, Stop, ahead, expect, name, number, open_bracket, past, sees};
-use pts_tree::{Atom, Cell, Mark, Range, Sign, SignKind, Sum, SumPart, Val};
+use pts_tree::{Atom, Cell, Mark, Name, Range, Sign, SignKind, Sum, SumPart, Val};
 use pts_types::Kind;
 use sqlite_items::Items;
 use std::alloc::Global;
@@ -50,7 +50,7 @@ fn goes_on(signs: &[Sign]) -> bool
     )
 }
 
-#[tactic(auto, using(crate::proofs::Loops::loops), unfolding(crate::specs::SumReading::sum_parts))]
+#[tactic(auto, using(crate::proofs::Repeats::loops), unfolding(crate::specs::SumReading::sum_parts))]
 fn sum_parts(alloc: Global, signs: &[Sign]) -> Read<Items<SumPart>>
     ensures { Gives (λ x. (x.0, x.1.now)) result (spec.sum_parts signs.now) }
 {
@@ -158,4 +158,15 @@ pub fn kind(signs: &[Sign]) -> Read<Kind>
         SignKind::Mark(Mark::Bool) => Ok((Kind::Bool, past(signs))),
         _ => Err(Stop::Unexpected(signs.len())),
     }
+}
+
+/// A name and its kind.
+#[tactic(auto, unfolding(crate::specs::Reading::and_then, crate::specs::SumReading::typed))]
+pub fn typed(alloc: Global, signs: &[Sign]) -> Read<(Name, Kind)>
+    ensures { Gives (λ x. (x.0, x.1.now)) result (spec.typed signs.now) }
+{
+    let (text, rest) = name(alloc, signs)?;
+    let rest = expect(Mark::Colon, rest)?;
+    let (kind, rest) = kind(rest)?;
+    Ok(((text, kind), rest))
 }

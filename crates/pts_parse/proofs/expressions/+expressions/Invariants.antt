@@ -1,7 +1,7 @@
 use Rattle.std.proofs.Common.{◌≡◌, ℕ, ◌+◌, ◌-◌, ◌*◌, length}
 use Rattle.pts_parse.specs.Reading.{many}
 use Rattle.pts_parse.specs.ExprReading as spec
-use Rattle.pts_parse.proofs.Loops.{with_front}
+use Rattle.pts_parse.proofs.Repeats.{with_front}
 use Rattle.pts_parse.proofs.Rooms.{connective_rank, level_rank}
 use Rattle.pts_parse.proofs.expressions.+expressions.Given as goal
 
