@@ -1,5 +1,5 @@
 -- How an expression is read with room for more brackets, and inside of one more.
-use Rattle.std.proofs.Common.{◌≡◌, ℕ, zero, suc, ◌-◌, ◌<◌, List, refl, ap, ◌∙◌, arith}
+use Rattle.std.proofs.Common.{◌≡◌, ℕ, zero, suc, Bool, ◌-◌, ◌<◌, List, refl, ap, ◌∙◌, arith}
 use Rattle.pts_tree.specs.Signs.{Sign}
 use Rattle.pts_tree.specs.declared.expr.Expr.{Expr}
 use Rattle.pts_parse.specs.declared.expressions.Level.{Level}
@@ -10,6 +10,7 @@ use Rattle.pts_parse.specs.Reading.{Parser}
 use Rattle.pts_tree.specs.declared.loops.BodyStmt.{BodyStmt}
 use Rattle.pts_parse.specs.Reading.{each_of}
 use Rattle.pts_parse.specs.ExprReading.{expr, expr_of, inner}
+use Rattle.pts_parse.specs.BlockReading.{sees_task, task_of, task_list, inner_tasks}
 use Rattle.pts_parse.specs.LoopReading.{bstmts, bstmt_of, sees_bstmt, inner_bstmts}
 
 pub expr_is : (room : ℕ) (ts : List Sign) → expr room ts ≡ expr_of room (inner room) ts
@@ -43,3 +44,15 @@ pub inner_bstmts_is : (room : ℕ) → 0 < room → inner_bstmts room ≡ bstmts
 unfolding bstmts inner_bstmts
 inner_bstmts_is zero h = absurd (omega arith)
 inner_bstmts_is (suc room) h = let e : suc room - 1 ≡ room = omega arith in rw e refl
+
+-- ---- statements of a block
+
+pub task_list_is : (room : ℕ) (in_run : Bool) (ts : List Sign) → task_list room in_run ts ≡ each_of (sees_task in_run) (task_of in_run room (inner_tasks room)) ts
+unfolding task_list inner_tasks
+task_list_is zero in_run ts = refl
+task_list_is (suc room) in_run ts = refl
+
+pub inner_tasks_is : (room : ℕ) → 0 < room → inner_tasks room ≡ task_list (room - 1)
+unfolding task_list inner_tasks
+inner_tasks_is zero h = absurd (omega arith)
+inner_tasks_is (suc room) h = let e : suc room - 1 ≡ room = omega arith in rw e refl

@@ -1,5 +1,5 @@
 -- Reading task blocks.
-use Rattle.std.specs.Prelude.{ℕ, zero, suc, Bool, true, false, List, [], ◌∷◌, Result, Ok}
+use Rattle.std.specs.Prelude.{ℕ, zero, suc, Bool, true, false, not, List, [], ◌∷◌, Result, Ok}
 use Rattle.pts_tree.specs.declared.mark.Mark.TheVariants as m
 use Rattle.pts_tree.specs.declared.sign.SignKind.{SignKind}
 use Rattle.pts_tree.specs.declared.sign.SignKind.TheVariants as k
@@ -75,8 +75,8 @@ sees_task in_run k.Name = true
 sees_task in_run (k.Mark m.Throw) = true
 sees_task in_run (k.Mark m.ForLoop) = true
 sees_task in_run (k.Mark m.TaskBlock) = true
-sees_task false (k.Mark m.Run) = true
-sees_task false (k.Mark m.Wait) = true
+sees_task in_run (k.Mark m.Run) = not in_run
+sees_task in_run (k.Mark m.Wait) = not in_run
 sees_task in_run x = sees_call x
 
 -- rstmt* or tstmt*

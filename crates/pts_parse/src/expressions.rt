@@ -323,8 +323,9 @@ pub fn enclosed(alloc: Global, before: Mark, after: Mark, room: usize, signs: &[
     Ok((inside, rest))
 }
 
+/// Whether the first sign is a comma.
 #[tactic(auto, unfolding(crate::specs::ExprReading::sees_comma))]
-fn sees_comma(signs: &[Sign]) -> bool
+pub fn sees_comma(signs: &[Sign]) -> bool
     ensures { result ≡ spec.sees_comma (ahead signs.now) }
 {
     sees(Mark::Comma, signs)

@@ -1,6 +1,7 @@
 //! The parser: from the signs of a script to its tree.
 #![tactic(auto)]
 
+mod blocks;
 mod calls;
 mod expressions;
 mod loops;
