@@ -1,0 +1,4 @@
+pub mod MarkTexts
+pub mod Ascii
+pub mod TokenPlaces
+pub mod Answering

@@ -1,5 +1,5 @@
 -- Which bytes are a script, and where bytes that are none fail.
-use Rattle.std.specs.Prelude.{◌≡◌, ◌⊎◌, ℕ, ◌-◌, List, [], ◌∷◌, ◌++◌, length, map, slice_range, slice_index, None}
+use Rattle.std.specs.Prelude.{◌≡◌, ◌⊎◌, ℕ, ◌-◌, ◌^◌, ◌<◌, true, List, [], ◌∷◌, ◌++◌, length, map, slice_range, slice_index, None}
 use Rattle.pts_lex.specs.declared.token.Token.{Token}
 use Rattle.pts_lex.specs.declared.token.TokenKind.TheVariants as kinds
 use Rattle.pts_lex.specs.declared.token.LexFault.TheVariants as lex_faults
@@ -7,6 +7,8 @@ use Rattle.pts_lex.specs.Lexical as lexical
 use Rattle.pts_tree.specs.declared.script.Script.{Script}
 use Rattle.pts_tree.specs.Marks.{text_of}
 use Rattle.pts_tree.specs.Signs.{Sign, Mark, Name, Number}
+use Rattle.pts_tree.specs.Scripts.{script, script_allowed}
+use Rattle.pts_parse.specs.Brackets.{beyond, bracket_limit}
 use Rattle.pts_parse.specs.Promise.{IsRead, IsUnexpected, IsNesting}
 use Rattle.pts_syntax.specs.declared.reading.SyntaxFault.{SyntaxFault}
 use Rattle.pts_syntax.specs.declared.reading.SyntaxKind.{SyntaxKind}
@@ -70,3 +72,22 @@ ExplainsKind bytes at fault_kinds.NoMemory = at ≡ 0
 -- why the bytes are no script
 abbrev pub Explains : List ℕ → SyntaxFault → Type 0
 Explains bytes fault = ExplainsKind bytes fault.at fault.kind
+
+-- ---- what prints and is read back
+
+-- a sign that some token says: any word or symbol, a name that is none, a number below 2 ^ 64
+abbrev pub IsSayable : Sign → Type 0
+IsSayable (Mark n) = Unit {0}
+IsSayable (Name text) = lexical.IsSpelling kinds.Name text
+IsSayable (Number n) = n < 2 ^ 64
+
+-- each is a sign that some token says
+abbrev pub AreSayable : List Sign → Type 0
+AreSayable [] = Unit {0}
+AreSayable (s ∷ ss) = IsSayable s × AreSayable ss
+
+-- the grammar has this script, its names and numbers are those of tokens, and no bracket of it is one too many
+pub record IsWritable (x : Script) : Type 0 where
+  pub allowed : script_allowed x ≡ true
+  pub sayable : AreSayable (script x [])
+  pub brackets : beyond bracket_limit (script x []) ≡ None

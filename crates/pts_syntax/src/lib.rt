@@ -2,6 +2,7 @@
 #![tactic(auto)]
 
 mod reading;
+mod signs;
 
 pub use reading::{SyntaxFault, SyntaxKind, parse};
 pub use pts_print::print;

@@ -1,8 +1,13 @@
 //! Reading a script from its bytes.
 
-ghost use Rattle.std.specs.Prelude.{IfErr, IfOk};
+ghost use Rattle.std.specs.Prelude.{◌≡◌, ℕ, List, IfErr, IfOk};
+ghost use Rattle.pts_lex.specs.Lexical as lexical;
+ghost use Rattle.pts_lex.specs.Lexical.{Lexes};
 ghost use Rattle.pts_syntax.specs.Syntax.{Explains, IsParsed};
 
+use crate::signs::{place, signs};
+use pts_lex::{LexFault, Token, tokens};
+use pts_parse::{Stop, parse_signs};
 use pts_tree::Script;
 use std::alloc::Global;
 
@@ -27,13 +32,63 @@ pub struct SyntaxFault {
     pub kind: SyntaxKind,
 }
 
-/// The script that the bytes spell, with at most 64 brackets open at once.
+fn no_memory() -> SyntaxFault
+    ensures { result ≡ record { at = 0; kind = SyntaxKind.NoMemory } }
+{
+    SyntaxFault {
+        at: 0,
+        kind: SyntaxKind::NoMemory,
+    }
+}
+
+fn lexical(fault: LexFault) -> SyntaxFault
+    ensures { (bytes : List ℕ) → lexical.Explains bytes fault → Explains bytes result }
+{
+    match fault {
+        LexFault::Byte(at) => SyntaxFault {
+            at,
+            kind: SyntaxKind::Byte,
+        },
+        LexFault::Number(at) => SyntaxFault {
+            at,
+            kind: SyntaxKind::Number,
+        },
+        LexFault::NoMemory => no_memory(),
+    }
+}
+
+// The script that the tokens of a text spell.
+#[tactic(auto, using(crate::proofs::TokenPlaces::tokens_lie, crate::proofs::Answering::answering))]
+fn parse_tokens(alloc: Global, bytes: &[u8], tokens: &[Token]) -> Result<Script, SyntaxFault>
+    requires { Lexes bytes.now tokens.now }
+    ensures script { IfOk result (IsParsed bytes.now) }
+    ensures fault { IfErr result (Explains bytes.now) }
+{
+    let Ok(signs) = signs(alloc, bytes, tokens) else {
+        return Err(no_memory());
+    };
+    match parse_signs(alloc, &signs) {
+        Ok(script) => Ok(script),
+        Err(Stop::Unexpected(left)) => Err(SyntaxFault {
+            at: place(bytes, tokens, left),
+            kind: SyntaxKind::Unexpected,
+        }),
+        Err(Stop::Nesting(left)) => Err(SyntaxFault {
+            at: place(bytes, tokens, left),
+            kind: SyntaxKind::Nesting,
+        }),
+        Err(Stop::NoMemory) => Err(no_memory()),
+    }
+}
+
+/// The script that the bytes spell, with at most 64 brackets open at once. A lexical fault comes before any other, and
+/// the least place of one is named.
 pub fn parse(alloc: Global, bytes: &[u8]) -> Result<Script, SyntaxFault>
     ensures script { IfOk result (IsParsed bytes.now) }
     ensures fault { IfErr result (Explains bytes.now) }
 {
-    Err(SyntaxFault {
-        at: 0,
-        kind: SyntaxKind::NoMemory,
-    })
+    match tokens(alloc, bytes) {
+        Ok(tokens) => parse_tokens(alloc, bytes, &tokens),
+        Err(fault) => Err(lexical(fault)),
+    }
 }
