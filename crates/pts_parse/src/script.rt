@@ -306,6 +306,9 @@ fn script(alloc: Global, room: usize, signs: &[Sign]) -> Result<Script, Stop>
     finish(items, rest)
 }
 
+// The most brackets that may be open at once.
+const BRACKET_LIMIT: usize = 64;
+
 /// The script that the signs spell, with at most 64 brackets open at once. `Unexpected` and `Nesting` count the signs that
 /// are left, from the first one on with which no script begins, or which opens a 65th bracket.
 pub fn parse_signs(alloc: Global, signs: &[Sign]) -> Result<Script, Stop>
@@ -313,5 +316,5 @@ pub fn parse_signs(alloc: Global, signs: &[Sign]) -> Result<Script, Stop>
     ensures unexpected { (left : ℕ) → result ≡ Err (Stop.Unexpected left) → IsUnexpected signs.now left }
     ensures nesting { (left : ℕ) → result ≡ Err (Stop.Nesting left) → IsNesting signs.now left }
 {
-    Err(Stop::NoMemory)
+    script(alloc, BRACKET_LIMIT, signs)
 }

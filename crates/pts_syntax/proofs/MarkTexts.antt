@@ -28,7 +28,8 @@ among_mark : (texts : List (List ℕ)) (text : List ℕ) → AreMarks texts → 
 among_mark [] text none h = absurd (cc)
 among_mark (t ∷ ts) text (one i more) h = elim (or_cases (bytes_eq t text) (list_any (λ u. bytes_eq u text) ts) h) [
   | inl same ↦ (i.0, sym ((bytes_eq-Decides t text).0 same) ∙ i.1)
-  | inr others ↦ among_mark ts text more others ]
+  | inr others ↦ among_mark ts text more others
+]
 
 -- the texts of one byte
 data AreMarkBytes : List ℕ → Type 0 where
@@ -39,7 +40,8 @@ byte_mark : (bytes : List ℕ) (b : ℕ) → AreMarkBytes bytes → list_any (λ
 byte_mark [] b no_byte h = absurd (cc)
 byte_mark (s ∷ ss) b (one_byte i more) h = elim (or_cases (eqb s b) (list_any (λ t. eqb t b) ss) h) [
   | inl same ↦ (i.0, ap (λ c. c ∷ []) (sym (eqb-true s b same)) ∙ i.1)
-  | inr others ↦ byte_mark ss b more others ]
+  | inr others ↦ byte_mark ss b more others
+]
 
 words_are_marks : AreMarks words
 unfolding words text_of

@@ -21,7 +21,7 @@ lead_tokens whole front at bytes (t ∷ ts) end rest e l (gap, text, after, cuts
     let joined : whole ≡ ((front ++ gap) ++ text) ++ after = parts ∙ sym (append_assoc (front ++ gap) text after) in
     let behind : length ((front ++ gap) ++ text) ≡ t.end = omega (arith, length-append (front ++ gap) text, stop_is) in
     All-cons (IsTokenOf whole) t ts (record { ordered = omega (arith, start_is, stop_is); within = omega (arith, stop_is, place.within); spells = rw text_is spells })
-      (lead_tokens whole ((front ++ gap) ++ text) t.end after ts end rest joined behind more)
+    (lead_tokens whole ((front ++ gap) ++ text) t.end after ts end rest joined behind more)
 
 pub tokens_lie : (bytes : List ℕ) (ts : List Token) → Lexes bytes ts → All (IsTokenOf bytes) ts
 tokens_lie bytes ts (end, rest, leads, blank) = lead_tokens bytes [] 0 bytes ts end rest refl refl leads

@@ -3,6 +3,8 @@
 
 mod reading;
 mod signs;
+#[cfg(test)]
+mod tests;
 
-pub use reading::{SyntaxFault, SyntaxKind, parse};
 pub use pts_print::print;
+pub use reading::{SyntaxFault, SyntaxKind, parse};

@@ -16,7 +16,7 @@ pub returns-in-Err-Unexpected-clause-fault : goal.returns-in-Err-Unexpected-clau
 returns-in-Err-Unexpected-clause-fault c =
     let said : AllSay c.args.bytes.now c.args.tokens.now c.deref.result.now = search rules in
     unexpected_at c.args.bytes.now c.args.tokens.now c.deref.result.now c.in-Err-Unexpected.left c.place.result c.requires said
-      (c.parse_signs.ensures.unexpected c.in-Err-Unexpected.left (search rules)) c.place.ensures
+    (c.parse_signs.ensures.unexpected c.in-Err-Unexpected.left (search rules)) c.place.ensures
 
 pub place-requires-in-Err-Nesting : goal.place-requires-in-Err-Nesting
 place-requires-in-Err-Nesting c =
@@ -27,4 +27,4 @@ pub returns-in-Err-Nesting-clause-fault : goal.returns-in-Err-Nesting-clause-fau
 returns-in-Err-Nesting-clause-fault c =
     let said : AllSay c.args.bytes.now c.args.tokens.now c.deref.result.now = search rules in
     nesting_at c.args.bytes.now c.args.tokens.now c.deref.result.now c.in-Err-Nesting.left c.place-in-Err-Nesting.result c.requires said
-      (c.parse_signs.ensures.nesting c.in-Err-Nesting.left (search rules)) c.place-in-Err-Nesting.ensures
+    (c.parse_signs.ensures.nesting c.in-Err-Nesting.left (search rules)) c.place-in-Err-Nesting.ensures
