@@ -10,5 +10,6 @@ pub mod SingleSigns
 pub mod LawfulRows
 pub mod Lookahead
 pub mod Fronts
+pub mod BeginningParts
 pub mod Endings
 pub mod SumsAlong

@@ -1,5 +1,6 @@
 pub mod Brackets
 pub mod Promise
+pub mod Laws
 pub mod Reading
 pub mod SumReading
 pub mod CallReading

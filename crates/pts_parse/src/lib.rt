@@ -4,10 +4,12 @@
 mod blocks;
 mod calls;
 mod expressions;
+mod laws;
 mod loops;
 mod reader;
 mod script;
 mod sums;
 
+pub use laws::begins_in_parts;
 pub use reader::Stop;
 pub use script::parse_signs;
