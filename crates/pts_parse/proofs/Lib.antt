@@ -11,5 +11,8 @@ pub mod LawfulRows
 pub mod Lookahead
 pub mod Fronts
 pub mod BeginningParts
+pub mod ScriptsAlong
+pub mod ScriptsAgain
+pub mod WholeScripts
 pub mod Endings
 pub mod SumsAlong

@@ -10,6 +10,6 @@ mod reader;
 mod script;
 mod sums;
 
-pub use laws::begins_in_parts;
+pub use laws::{begins_in_parts, one_reading, rules_match_what_is_spelled};
 pub use reader::Stop;
 pub use script::parse_signs;
