@@ -167,6 +167,13 @@ pub last : {A : Type 0} {row : Row} {room room' : ℕ} {QA Q : A → List Sign �
 last (reads x after q p) go = reads x after (go x after q) p
 last (fails e f) go = fails e f
 
+-- what was read is made into the answer
+pub made : {A B : Type 0} {row : Row} {room room' : ℕ} {QA : A → List Sign → Type 0} {Q : B → List Sign → Type 0} {before : List Sign} {o : Read A}
+    (f : A → B) → Along row room room' QA before o → ((x : A) (after : List Sign) → QA x after → Q (f x) after) → Along row room room' Q before (and_then o (λ x. Ok (f x.0, x.1)))
+unfolding and_then
+made f (reads x after q p) go = reads (f x) after (go x after q) p
+made f (fails e g) go = fails e g
+
 -- what is read goes by a test
 pub test_along : {A : Type 0} {Q : A → List Sign → Type 0} {row : Row} {room room' : ℕ} {ts : List Sign} {one other : Read A}
     (b : Bool) → (b ≡ true → Along row room room' Q ts one) → (b ≡ false → Along row room room' Q ts other) → Along row room room' Q ts (if b then one else other)
