@@ -14,3 +14,4 @@ pub mod Endings
 pub mod SumsAlong
 pub mod CallsAlong
 pub mod OperandsAlong
+pub mod ChainsAlong
