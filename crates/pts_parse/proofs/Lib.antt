@@ -15,3 +15,4 @@ pub mod SumsAlong
 pub mod CallsAlong
 pub mod OperandsAlong
 pub mod ChainsAlong
+pub mod ExprsAlong
