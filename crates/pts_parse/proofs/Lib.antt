@@ -16,3 +16,4 @@ pub mod CallsAlong
 pub mod OperandsAlong
 pub mod ChainsAlong
 pub mod ExprsAlong
+pub mod ClausesAlong
