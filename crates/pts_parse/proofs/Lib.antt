@@ -17,3 +17,4 @@ pub mod OperandsAlong
 pub mod ChainsAlong
 pub mod ExprsAlong
 pub mod ClausesAlong
+pub mod BodiesAlong
