@@ -18,3 +18,4 @@ pub mod ChainsAlong
 pub mod ExprsAlong
 pub mod ClausesAlong
 pub mod BodiesAlong
+pub mod LoopsAlong
