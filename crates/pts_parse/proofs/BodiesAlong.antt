@@ -1,5 +1,5 @@
 -- Statements of loops' bodies: each is read along its rule, spelled by the signs that were read, and one that the grammar has.
-use Rattle.std.proofs.Common.{◌≡◌, ℕ, zero, suc, ◌-◌, ◌<◌, Bool, true, false, is_some, List, [], ◌∷◌, map, Option, Some, None, refl, sym, subst, ◌∙◌, ap, arith}
+use Rattle.std.proofs.Common.{◌≡◌, ℕ, zero, suc, ◌-◌, ◌<◌, Bool, true, false, is_some, List, [], ◌∷◌, map, Option, Some, None, refl, sym, ◌∙◌, ap, arith}
 use Rattle.std.specs.List.{list_all}
 use Rattle.std.proofs.lemmas.List.Folds.{list_all-map}
 use Rattle.std.specs.Cmp.Derive.{both_true}
@@ -17,7 +17,7 @@ use Rattle.pts_tree.specs.Spelling.{Text, each, optional, word, if_there}
 use Rattle.pts_tree.specs.Expressions.{expr_allowed}
 use Rattle.pts_tree.specs.Expressions as exprs
 use Rattle.pts_tree.specs.Statements as stmts
-use Rattle.pts_tree.specs.Statements.{Phrase, phrase, phrase_text, phrase_allowed, upd_mark, bstmt, bstmt_allowed}
+use Rattle.pts_tree.specs.Statements.{phrase, phrase_text, phrase_allowed, upd_mark, bstmt, bstmt_allowed}
 use Rattle.pts_tree.specs.Grammar as g
 use Rattle.pts_tree.specs.Grammar.{Rule, Row, One, The, Many, Maybe, rows, same}
 use Rattle.pts_tree.proofs.Lists.{each_map}
@@ -30,7 +30,7 @@ use Rattle.pts_parse.proofs.Tables.{first}
 use Rattle.pts_parse.proofs.Passes.{Along, step, steps, skip, done, last, test_along}
 use Rattle.pts_parse.proofs.Choices.{alone, choice, no_choice, all_along, SeesRule, sees_one, with_part, without_part}
 use Rattle.pts_parse.proofs.SingleSigns.{mark_seen, behind, word_along, expect_along, open_along, close_along, name_along}
-use Rattle.pts_parse.proofs.CallsAlong.{Allowed}
+use Rattle.pts_parse.proofs.CallsAlong.{Allowed, equal_read}
 use Rattle.pts_parse.proofs.OperandsAlong.{Enclosed}
 use Rattle.pts_parse.proofs.ExprsAlong.{expr_along, bracketed_along}
 
@@ -39,10 +39,6 @@ use Rattle.pts_parse.proofs.ExprsAlong.{expr_along, bracketed_along}
 -- what was read of a statement: it is spelled so, and the grammar has it
 abbrev ReadStmt : List Sign → BodyStmt → List Sign → Type 0
 ReadStmt before x after = Allowed phrase_text phrase_allowed before (phrase x) after
-
--- a statement has this phrase
-phrased : {before after : List Sign} {x y : Phrase} → x ≡ y → Allowed phrase_text phrase_allowed before y after → Allowed phrase_text phrase_allowed before x after
-phrased {before = before} {after = after} e p = subst (λ z. Allowed phrase_text phrase_allowed before z after) (sym e) p
 
 -- statements one behind the other
 abbrev stmts_text : List BodyStmt → Text
@@ -84,7 +80,7 @@ unfolding assign bracketed
 assign_along room text ts =
     steps (bracketed_along room ts) (λ i p.
     steps (value_along m.Equal room refl i.1) (λ x q.
-    done (phrased (phrase-Assign (record { array = text; index = i.0 }) x.0) (record {
+    done (equal_read (phrase-Assign (record { array = text; index = i.0 }) x.0) (record {
       text = ap (λ us. Name text ∷ us) (p.text ∙ ap (exprs.enclosed m.OpenBracket (exprs.expr i.0) m.CloseBracket) q.text);
       allowed = both_true p.allowed q.allowed }))))
 
@@ -92,7 +88,7 @@ combine_along : (room : ℕ) (text : List ℕ) (ts : List Sign)
     → Along (g.mark m.TildeEqual ∷ The Rule.expr ∷ g.mark m.Semicolon ∷ []) room room (ReadStmt (Name text ∷ ts)) ts (combine room text ts)
 unfolding combine
 combine_along room text ts =
-    steps (value_along m.TildeEqual room refl ts) (λ x q. done (phrased (phrase-Combine text x.0) (record { text = ap (λ us. Name text ∷ us) q.text; allowed = q.allowed })))
+    steps (value_along m.TildeEqual room refl ts) (λ x q. done (equal_read (phrase-Combine text x.0) (record { text = ap (λ us. Name text ∷ us) q.text; allowed = q.allowed })))
 
 name_stmt_by_along : (x : SignKind) (room : ℕ) (text : List ℕ) (ts : List Sign) → ahead ts ≡ x → Along (The Rule.name_stmt ∷ []) room room (ReadStmt (Name text ∷ ts)) ts (name_stmt_by x room text ts)
 unfolding rows first place
@@ -110,7 +106,7 @@ unfolding let_name
 let_name_along room ts =
     step (name_along ts) (λ n p.
     steps (value_along m.Equal room refl n.1) (λ x q.
-    done (phrased (phrase-Let n.0 x.0) (record { text = ap (λ us. Mark m.Let ∷ us) (p ∙ ap (λ us. Name n.0 ∷ us) q.text); allowed = q.allowed }))))
+    done (equal_read (phrase-Let n.0 x.0) (record { text = ap (λ us. Mark m.Let ∷ us) (p ∙ ap (λ us. Name n.0 ∷ us) q.text); allowed = q.allowed }))))
 
 -- the operator of an update
 abbrev upd_text : ScalarOp → Text
@@ -141,7 +137,7 @@ ordered_along room ts =
     step (upd_along at.1) (λ o q.
     step (expr_along room o.1) (λ x s.
     skip (expect_along m.Semicolon x.1 refl) (λ r t.
-    done (phrased (phrase-Ordered at.0 o.0 x.0) (record {
+    done (equal_read (phrase-Ordered at.0 o.0 x.0) (record {
       text = ap (λ us. Mark m.Ordered ∷ us) (p.text ∙ ap (stmts.place at.0) (q.text ∙ ap (upd_text o.0) (s.text ∙ ap (exprs.expr x.0) t)));
       allowed = both_true (both_true q.allowed p.allowed) s.allowed }))))))
 
@@ -183,7 +179,7 @@ module _ (room : ℕ) (inside : Parser (List BodyStmt)) (inside_along : ReadWith
       step (expr_along room ts) (λ x p.
       steps (braced_along x.1) (λ xs q.
       step (else_along xs.1) (λ ys s.
-      done (phrased (phrase-If x.0 xs.0 ys.0) (record {
+      done (equal_read (phrase-If x.0 xs.0 ys.0) (record {
         text = ap (λ us. Mark m.If ∷ us) (p.text ∙ ap (exprs.expr x.0) (q.text ∙ ap (braced_text xs.0) s.text));
         allowed = both_true (both_true p.allowed q.allowed) s.allowed })))))
 
@@ -191,7 +187,7 @@ module _ (room : ℕ) (inside : Parser (List BodyStmt)) (inside_along : ReadWith
       → Along (g.mark m.OpenBrace ∷ Many Rule.bstmt ∷ g.mark m.CloseBrace ∷ []) room room (ReadStmt (Mark m.VecOff ∷ ts)) ts (vec_off room inside ts)
   unfolding vec_off
   vec_off_along ts =
-      steps (braced_along ts) (λ xs q. done (phrased (phrase-VecOff xs.0) (record { text = ap (λ us. Mark m.VecOff ∷ us) q.text; allowed = q.allowed })))
+      steps (braced_along ts) (λ xs q. done (equal_read (phrase-VecOff xs.0) (record { text = ap (λ us. Mark m.VecOff ∷ us) q.text; allowed = q.allowed })))
 
   bstmt_by_along : (x : SignKind) (ts : List Sign) → ahead ts ≡ x → Along (The Rule.bstmt ∷ []) room room (ReadStmt ts) ts (bstmt_by x room inside ts)
   unfolding rows first place

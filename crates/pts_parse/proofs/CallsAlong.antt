@@ -1,5 +1,5 @@
 -- Calls of algorithms: each is read along its rule, spelled by the signs that were read, and one that the grammar has.
-use Rattle.std.proofs.Common.{◌≡◌, ℕ, Bool, true, false, ◌&&◌, is_some, is_none, List, [], ◌∷◌, ◌++◌, Option, Some, None, refl, sym, ◌∙◌, ap}
+use Rattle.std.proofs.Common.{◌≡◌, ℕ, Bool, true, false, ◌&&◌, is_some, is_none, List, [], ◌∷◌, ◌++◌, Option, Some, None, refl, sym, subst, ◌∙◌, ap}
 use Rattle.std.specs.Cmp.Derive.{both_true}
 use Rattle.std.proofs.lemmas.Bool.{and_parts}
 use Rattle.pts_types.specs.declared.operation.Policy.{Policy}
@@ -33,6 +33,10 @@ use Rattle.pts_parse.proofs.SumsAlong.{Spelled, val_along, range_along, cell_alo
 pub record Allowed {A : Type 0} (spell : A → Text) (test : A → Bool) (before : List Sign) (x : A) (after : List Sign) : Type 0 where
   pub text : before ≡ spell x after
   pub allowed : test x ≡ true
+
+-- what was read is equal to this part
+pub equal_read : {A : Type 0} {spell : A → Text} {test : A → Bool} {before after : List Sign} {x y : A} → x ≡ y → Allowed spell test before y after → Allowed spell test before x after
+equal_read {spell = spell} {test = test} {before = before} {after = after} e p = subst (λ z. Allowed spell test before z after) (sym e) p
 
 -- ---- parts of calls
 

@@ -19,3 +19,4 @@ pub mod ExprsAlong
 pub mod ClausesAlong
 pub mod BodiesAlong
 pub mod LoopsAlong
+pub mod BlocksAlong
