@@ -20,3 +20,4 @@ pub mod ClausesAlong
 pub mod BodiesAlong
 pub mod LoopsAlong
 pub mod BlocksAlong
+pub mod ItemsAlong
