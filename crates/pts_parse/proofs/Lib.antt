@@ -21,3 +21,4 @@ pub mod BodiesAlong
 pub mod LoopsAlong
 pub mod BlocksAlong
 pub mod ItemsAlong
+pub mod ScriptsAlong
