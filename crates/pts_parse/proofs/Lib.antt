@@ -16,3 +16,13 @@ pub mod ScriptsAgain
 pub mod WholeScripts
 pub mod Endings
 pub mod SumsAlong
+pub mod CallsAlong
+pub mod OperandsAlong
+pub mod ChainsAlong
+pub mod ExprsAlong
+pub mod ClausesAlong
+pub mod BodiesAlong
+pub mod LoopsAlong
+pub mod BlocksAlong
+pub mod ItemsAlong
+pub mod ScriptsAlong

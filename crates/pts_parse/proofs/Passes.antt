@@ -158,6 +158,20 @@ pub skip : {B : Type 0} {p : Part} {row : Row} {room room' room'' : ℕ} {QA : L
     → Along (p ∷ row) room room'' Q before (and_then o f)
 skip a go = skip_all a go
 
+skips_behind : {room room' room'' : ℕ} {Q : List Sign → Type 0} {before mid : List Sign} {o : Result (List Sign) Stop} (front row : Row)
+    → Passes front room before room' mid → Skips row room' room'' Q mid o → Skips (front ++ row) room room'' Q before o
+skips_behind front row p (skips after q r) = skips after q (passes_both front row p r)
+skips_behind front row p (stuck e f) = stuck e (fails_behind front row p f)
+
+-- two such steps
+pub skips_both : {front row : Row} {room room' room'' : ℕ} {QA Q : List Sign → Type 0} {before : List Sign} {o : Result (List Sign) Stop} {f : List Sign → Result (List Sign) Stop}
+    → Skips front room room' QA before o
+    → ((after : List Sign) → QA after → Skips row room' room'' Q after (f after))
+    → Skips (front ++ row) room room'' Q before (and_then o f)
+unfolding and_then
+skips_both {front = front} {row = row} (skips after q p) go = skips_behind front row p (go after q)
+skips_both {front = front} {row = row} (stuck e f) go = stuck e (fails_first front row f)
+
 -- nothing is left to read
 pub done : {A : Type 0} {Q : A → List Sign → Type 0} {room : ℕ} {x : A} {ts : List Sign} → Q x ts → Along [] room room Q ts (Ok (x, ts))
 done {room = room} {x = x} {ts = ts} q = reads x ts q (passes_nothing room ts)
@@ -167,6 +181,13 @@ pub last : {A : Type 0} {row : Row} {room room' : ℕ} {QA Q : A → List Sign �
     → Along row room room' QA before o → ((x : A) (after : List Sign) → QA x after → Q x after) → Along row room room' Q before o
 last (reads x after q p) go = reads x after (go x after q) p
 last (fails e f) go = fails e f
+
+-- what was read is made into the answer
+pub made : {A B : Type 0} {row : Row} {room room' : ℕ} {QA : A → List Sign → Type 0} {Q : B → List Sign → Type 0} {before : List Sign} {o : Read A}
+    (f : A → B) → Along row room room' QA before o → ((x : A) (after : List Sign) → QA x after → Q (f x) after) → Along row room room' Q before (and_then o (λ x. Ok (f x.0, x.1)))
+unfolding and_then
+made f (reads x after q p) go = reads (f x) after (go x after q) p
+made f (fails e g) go = fails e g
 
 -- what is read goes by a test
 pub test_along : {A : Type 0} {Q : A → List Sign → Type 0} {row : Row} {room room' : ℕ} {ts : List Sign} {one other : Read A}
