@@ -11,9 +11,6 @@ pub mod LawfulRows
 pub mod Lookahead
 pub mod Fronts
 pub mod BeginningParts
-pub mod ScriptsAlong
-pub mod ScriptsAgain
-pub mod WholeScripts
 pub mod Endings
 pub mod SumsAlong
 pub mod CallsAlong
@@ -26,3 +23,5 @@ pub mod LoopsAlong
 pub mod BlocksAlong
 pub mod ItemsAlong
 pub mod ScriptsAlong
+pub mod ScriptsAgain
+pub mod WholeScripts

@@ -16,7 +16,7 @@ use Rattle.pts_tree.specs.Grammar as g
 use Rattle.pts_tree.specs.Grammar.{Rule, The, Many, Maybe, rows}
 use Rattle.pts_tree.specs.Marks.{place}
 use Rattle.pts_parse.specs.Reading.{ahead, past}
-use Rattle.pts_parse.specs.LoopReading.{loop_head, bounds, loop}
+use Rattle.pts_parse.specs.LoopReading.{loop_head, bounds, loop_behind}
 use Rattle.pts_parse.proofs.Passes.{Along, step, steps, skip, done, last}
 use Rattle.pts_parse.proofs.Choices.{alone}
 use Rattle.pts_parse.proofs.SingleSigns.{behind, expect_along, name_along}
@@ -54,8 +54,8 @@ bounds_along ts =
 -- a loop behind its word
 behind_word : (room : ℕ) (ts : List Sign)
     → Along (The Rule.policy ∷ g.name ∷ g.mark m.Equal ∷ The Rule.sum ∷ g.mark m.To ∷ The Rule.sum ∷ Maybe Rule.step_part ∷ Many Rule.clause
-        ∷ g.mark m.OpenBrace ∷ Many Rule.bstmt ∷ g.mark m.CloseBrace ∷ []) room room (Allowed stmts.loop loop_allowed (Mark m.ForLoop ∷ ts)) ts (loop room ts)
-unfolding loop
+        ∷ g.mark m.OpenBrace ∷ Many Rule.bstmt ∷ g.mark m.CloseBrace ∷ []) room room (Allowed stmts.loop loop_allowed (Mark m.ForLoop ∷ ts)) ts (loop_behind room ts)
+unfolding loop_behind
 behind_word room ts =
     steps (head_along ts) (λ h p.
     steps (bounds_along h.1) (λ x q.
@@ -66,7 +66,7 @@ behind_word room ts =
       allowed = both_true s.allowed t.allowed })))))
 
 -- a loop, of which the word was looked at
-pub loop_along : (room : ℕ) (ts : List Sign) → ahead ts ≡ k.Mark m.ForLoop → Along (The Rule.loop ∷ []) room room (Allowed stmts.loop loop_allowed ts) ts (loop room (past ts))
+pub loop_along : (room : ℕ) (ts : List Sign) → ahead ts ≡ k.Mark m.ForLoop → Along (The Rule.loop ∷ []) room room (Allowed stmts.loop loop_allowed ts) ts (loop_behind room (past ts))
 unfolding rows place
 loop_along room ts e =
     alone Rule.loop refl (behind m.ForLoop ts e refl refl (λ i. last (behind_word room (past ts)) (λ x after q. record { text = i ∙ q.text; allowed = q.allowed })))
