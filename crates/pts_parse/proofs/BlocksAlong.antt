@@ -158,8 +158,8 @@ tasks_along : (room : ℕ) (inside : Inside) → ReadWithin room inside → (in_
     → Along (Many (task_rule in_run) ∷ []) room room (Allowed tasks_text (tasks_allowed in_run) ts) ts (each_of (sees_task in_run) (task_of in_run room inside) ts)
 tasks_along room inside a in_run ts =
     all_along (ReadTask in_run) (Allowed tasks_text (tasks_allowed in_run)) (task_rule in_run) (sees_task_first in_run)
-      (λ us. task_along room inside a in_run us) (λ us. record { text = refl; allowed = refl })
-      (λ x xs before mid after q qs. record { text = q.text ∙ ap (tstmt x) qs.text; allowed = both_true q.allowed qs.allowed }) ts
+    (λ us. task_along room inside a in_run us) (λ us. record { text = refl; allowed = refl })
+    (λ x xs before mid after q qs. record { text = q.text ∙ ap (tstmt x) qs.text; allowed = both_true q.allowed qs.allowed }) ts
 
 -- where no brace may open, nothing is read inside of it
 none_within : (inside : Inside) → ReadWithin 0 inside

@@ -82,7 +82,8 @@ assign_along room text ts =
     steps (value_along m.Equal room refl i.1) (λ x q.
     done (equal_read (phrase-Assign (record { array = text; index = i.0 }) x.0) (record {
       text = ap (λ us. Name text ∷ us) (p.text ∙ ap (exprs.enclosed m.OpenBracket (exprs.expr i.0) m.CloseBracket) q.text);
-      allowed = both_true p.allowed q.allowed }))))
+      allowed = both_true p.allowed q.allowed;
+    }))))
 
 combine_along : (room : ℕ) (text : List ℕ) (ts : List Sign)
     → Along (g.mark m.TildeEqual ∷ The Rule.expr ∷ g.mark m.Semicolon ∷ []) room room (ReadStmt (Name text ∷ ts)) ts (combine room text ts)
@@ -139,7 +140,8 @@ ordered_along room ts =
     skip (expect_along m.Semicolon x.1 refl) (λ r t.
     done (equal_read (phrase-Ordered at.0 o.0 x.0) (record {
       text = ap (λ us. Mark m.Ordered ∷ us) (p.text ∙ ap (stmts.place at.0) (q.text ∙ ap (upd_text o.0) (s.text ∙ ap (exprs.expr x.0) t)));
-      allowed = both_true (both_true q.allowed p.allowed) s.allowed }))))))
+      allowed = both_true (both_true q.allowed p.allowed) s.allowed;
+    }))))))
 
 -- ---- statements with statements inside
 
@@ -167,10 +169,10 @@ module _ (room : ℕ) (inside : Parser (List BodyStmt)) (inside_along : ReadWith
   unfolding else_part rows first place
   else_along ts =
       test_along (same (k.Mark m.Else) (ahead ts))
-        (λ e. with_part Rule.else_part (sym (sees_one (k.Mark m.Else) (ahead ts)) ∙ e) (alone Rule.else_part refl (
-          behind m.Else ts (mark_seen m.Else ts e) refl refl (λ i. steps (braced_along (past ts)) (λ ys q.
-          done (record { text = i ∙ ap (λ us. Mark m.Else ∷ us) q.text; allowed = q.allowed }))))))
-        (λ e. without_part Rule.else_part (sym (sees_one (k.Mark m.Else) (ahead ts)) ∙ e) (done (record { text = refl; allowed = refl })))
+      (λ e. with_part Rule.else_part (sym (sees_one (k.Mark m.Else) (ahead ts)) ∙ e) (alone Rule.else_part refl (
+      behind m.Else ts (mark_seen m.Else ts e) refl refl (λ i. steps (braced_along (past ts)) (λ ys q.
+      done (record { text = i ∙ ap (λ us. Mark m.Else ∷ us) q.text; allowed = q.allowed }))))))
+      (λ e. without_part Rule.else_part (sym (sees_one (k.Mark m.Else) (ahead ts)) ∙ e) (done (record { text = refl; allowed = refl })))
 
   if_stmt_along : (ts : List Sign)
       → Along (The Rule.expr ∷ g.mark m.OpenBrace ∷ Many Rule.bstmt ∷ g.mark m.CloseBrace ∷ Maybe Rule.else_part ∷ []) room room (ReadStmt (Mark m.If ∷ ts)) ts (if_stmt room inside ts)
@@ -181,7 +183,8 @@ module _ (room : ℕ) (inside : Parser (List BodyStmt)) (inside_along : ReadWith
       step (else_along xs.1) (λ ys s.
       done (equal_read (phrase-If x.0 xs.0 ys.0) (record {
         text = ap (λ us. Mark m.If ∷ us) (p.text ∙ ap (exprs.expr x.0) (q.text ∙ ap (braced_text xs.0) s.text));
-        allowed = both_true (both_true p.allowed q.allowed) s.allowed })))))
+        allowed = both_true (both_true p.allowed q.allowed) s.allowed;
+      })))))
 
   vec_off_along : (ts : List Sign)
       → Along (g.mark m.OpenBrace ∷ Many Rule.bstmt ∷ g.mark m.CloseBrace ∷ []) room room (ReadStmt (Mark m.VecOff ∷ ts)) ts (vec_off room inside ts)
@@ -218,8 +221,8 @@ stmts_along : (room : ℕ) (inside : Parser (List BodyStmt)) → ReadWithin room
 unfolding bstmt_of
 stmts_along room inside a ts =
     all_along ReadStmt (Allowed stmts_text stmts_allowed) Rule.bstmt sees_bstmt_first
-      (λ us. bstmt_by_along room inside a (ahead us) us refl) (λ us. record { text = refl; allowed = refl })
-      (λ x xs before mid after q qs. record { text = q.text ∙ ap (bstmt x) qs.text; allowed = both_true q.allowed qs.allowed }) ts
+    (λ us. bstmt_by_along room inside a (ahead us) us refl) (λ us. record { text = refl; allowed = refl })
+    (λ x xs before mid after q qs. record { text = q.text ∙ ap (bstmt x) qs.text; allowed = both_true q.allowed qs.allowed }) ts
 
 -- where no brace may open, nothing is read inside of it
 none_within : (inside : Parser (List BodyStmt)) → ReadWithin 0 inside
@@ -246,4 +249,5 @@ unfolding body
 body_along room ts =
     last (braced_along room (inner_bstmts room) (inner_bstmts_along room) ts) (λ xs after q. record {
       text = q.text ∙ ap (λ us. Mark m.OpenBrace ∷ us) (each_map phrase_text phrase xs (Mark m.CloseBrace ∷ after));
-      allowed = sym (list_all-map phrase_allowed phrase xs) ∙ q.allowed })
+      allowed = sym (list_all-map phrase_allowed phrase xs) ∙ q.allowed;
+    })

@@ -74,9 +74,9 @@ second_along : (room : ℕ) (ts : List Sign) → Along (Maybe Rule.second_range 
 unfolding second rows first place
 second_along room ts =
     test_along (same (k.Mark m.Comma) (ahead ts))
-      (λ e. with_part Rule.second_range (sym (sees_one (k.Mark m.Comma) (ahead ts)) ∙ e) (alone Rule.second_range refl (
-        behind m.Comma ts (mark_seen m.Comma ts e) refl refl (λ i. step (range_along room (past ts)) (λ x q. done (i ∙ ap (λ us. Mark m.Comma ∷ us) q))))))
-      (λ e. without_part Rule.second_range (sym (sees_one (k.Mark m.Comma) (ahead ts)) ∙ e) (done refl))
+    (λ e. with_part Rule.second_range (sym (sees_one (k.Mark m.Comma) (ahead ts)) ∙ e) (alone Rule.second_range refl (
+    behind m.Comma ts (mark_seen m.Comma ts e) refl refl (λ i. step (range_along room (past ts)) (λ x q. done (i ∙ ap (λ us. Mark m.Comma ∷ us) q))))))
+    (λ e. without_part Rule.second_range (sym (sees_one (k.Mark m.Comma) (ahead ts)) ∙ e) (done refl))
 
 target_along : (room : ℕ) (ts : List Sign) → Along (g.mark m.Arrow ∷ The Rule.range ∷ []) room room (Spelled spelling.target_range ts) ts (target room ts)
 unfolding target
@@ -90,16 +90,16 @@ optional_init_along : {room : ℕ} (ts : List Sign) → Along (Maybe Rule.init_p
 unfolding optional_init first
 optional_init_along ts =
     test_along (same (k.Mark m.Init) (ahead ts))
-      (λ e. with_part Rule.init_part (sym (sees_one (k.Mark m.Init) (ahead ts)) ∙ e) (step (init_along ts) (λ x q. done q)))
-      (λ e. without_part Rule.init_part (sym (sees_one (k.Mark m.Init) (ahead ts)) ∙ e) (done refl))
+    (λ e. with_part Rule.init_part (sym (sees_one (k.Mark m.Init) (ahead ts)) ∙ e) (step (init_along ts) (λ x q. done q)))
+    (λ e. without_part Rule.init_part (sym (sees_one (k.Mark m.Init) (ahead ts)) ∙ e) (done refl))
 
 store_along : (room : ℕ) (ts : List Sign) → Along (Maybe Rule.into ∷ []) room room (Spelled (optional spelling.into) ts) ts (store room ts)
 unfolding store rows first place
 store_along room ts =
     test_along (same (k.Mark m.Into) (ahead ts))
-      (λ e. with_part Rule.into (sym (sees_one (k.Mark m.Into) (ahead ts)) ∙ e) (alone Rule.into refl (
-        behind m.Into ts (mark_seen m.Into ts e) refl refl (λ i. step (cell_along room (past ts)) (λ x q. done (i ∙ ap (λ us. Mark m.Into ∷ us) q))))))
-      (λ e. without_part Rule.into (sym (sees_one (k.Mark m.Into) (ahead ts)) ∙ e) (done refl))
+    (λ e. with_part Rule.into (sym (sees_one (k.Mark m.Into) (ahead ts)) ∙ e) (alone Rule.into refl (
+    behind m.Into ts (mark_seen m.Into ts e) refl refl (λ i. step (cell_along room (past ts)) (λ x q. done (i ∙ ap (λ us. Mark m.Into ∷ us) q))))))
+    (λ e. without_part Rule.into (sym (sees_one (k.Mark m.Into) (ahead ts)) ∙ e) (done refl))
 
 -- ---- what several calls have
 
@@ -175,7 +175,7 @@ for_each_along room ts =
 
 transform_along : (room : ℕ) (ts : List Sign)
     → Along (The Rule.policy ∷ The Rule.range ∷ Maybe Rule.second_range ∷ g.mark m.Arrow ∷ The Rule.range ∷ g.name ∷ g.mark m.Semicolon ∷ []) room room
-      (Called forms.Transform ts) ts (transform room ts)
+    (Called forms.Transform ts) ts (transform room ts)
 unfolding transform
 transform_along room ts =
     steps (sources_along room ts) (λ h p.
@@ -198,7 +198,7 @@ search_along form fits room ts =
 
 reduce_along : (room : ℕ) (ts : List Sign)
     → Along (The Rule.policy ∷ The Rule.range ∷ The Rule.init_part ∷ The Rule.op ∷ Maybe Rule.into ∷ g.mark m.Semicolon ∷ []) room room
-      (Called forms.Reduce ts) ts (reduce room ts)
+    (Called forms.Reduce ts) ts (reduce room ts)
 unfolding reduce
 reduce_along room ts =
     steps (head_along room ts) (λ h p.
@@ -208,7 +208,7 @@ reduce_along room ts =
 
 transform_reduce_along : (room : ℕ) (ts : List Sign)
     → Along (The Rule.policy ∷ The Rule.range ∷ Maybe Rule.second_range ∷ The Rule.init_part ∷ The Rule.op ∷ g.name ∷ Maybe Rule.into ∷ g.mark m.Semicolon ∷ []) room room
-      (Called forms.TransformReduce ts) ts (transform_reduce room ts)
+    (Called forms.TransformReduce ts) ts (transform_reduce room ts)
 unfolding transform_reduce
 transform_reduce_along room ts =
     steps (sources_along room ts) (λ h p.
@@ -217,7 +217,8 @@ transform_reduce_along room ts =
     steps (stored_end_along room f.1) (λ into w.
     done (record {
       text = ap (λ us. Mark m.TransformReduce ∷ us) (p ∙ ap (sources_text h.0) (q.text ∙ ap (start_text s.0) (v ∙ ap (λ us. Name f.0 ∷ us) w)));
-      allowed = q.allowed })))))
+      allowed = q.allowed;
+    })))))
 
 -- ---- scans
 
@@ -255,14 +256,15 @@ scan_along : {room : ℕ} (form : CallForm) (front function : Row) (begun : Opti
     → ((ts : List Sign) → Along front room room (Allowed (optional spelling.init_part) begun ts) ts (scan_init form ts))
     → ((ts : List Sign) → Along function room room (Allowed (optional spelling.name) named ts) ts (scan_function form ts))
     → (ts : List Sign) → Along (The Rule.policy ∷ The Rule.range ∷ g.mark m.Arrow ∷ The Rule.range ∷ (front ++ The Rule.op ∷ (function ++ g.mark m.Semicolon ∷ []))) room room
-      (Called form ts) ts (scan form room ts)
+    (Called form ts) ts (scan form room ts)
 unfolding scan
 scan_along {room = room} form front function begun named fits i_along f_along ts =
     steps (scan_ranges_along room ts) (λ h p.
     steps {front = front} {row = The Rule.op ∷ (function ++ g.mark m.Semicolon ∷ [])} (i_along h.1) (λ from q.
     made (λ o. scanning form h.0 from.0 o) (scan_end_along form function named f_along from.1) (λ o after s. record {
       text = ap (λ us. Mark (spelling.form form) ∷ us) (p ∙ ap (scan_ranges_text h.0) (q.text ∙ ap (optional spelling.init_part from.0) s.text));
-      allowed = let both = and_parts (op_allowed o.0) (named o.1) s.allowed in fits h.0 from.0 o q.allowed both.0 both.1 })))
+      allowed = let both = and_parts (op_allowed o.0) (named o.1) s.allowed in fits h.0 from.0 o q.allowed both.0 both.1;
+    })))
 
 -- any start will do
 abbrev any_start : Option Val → Bool
@@ -294,16 +296,16 @@ call_by_along (k.Mark m.Reduce) room ts e = choice Rule.call 3 e refl (worded fo
 call_by_along (k.Mark m.TransformReduce) room ts e = choice Rule.call 4 e refl (worded forms.TransformReduce ts e refl refl (transform_reduce_along room (past ts)))
 call_by_along (k.Mark m.InclusiveScan) room ts e =
     choice Rule.call 5 e refl (worded forms.InclusiveScan ts e refl refl (
-      scan_along forms.InclusiveScan (Maybe Rule.init_part ∷ []) [] any_start is_none (λ h from o p q r. rw (q, r) refl) (λ us. may_begin_along us) (λ us. no_name_along us) (past ts)))
+    scan_along forms.InclusiveScan (Maybe Rule.init_part ∷ []) [] any_start is_none (λ h from o p q r. rw (q, r) refl) (λ us. may_begin_along us) (λ us. no_name_along us) (past ts)))
 call_by_along (k.Mark m.ExclusiveScan) room ts e =
     choice Rule.call 6 e refl (worded forms.ExclusiveScan ts e refl refl (
-      scan_along forms.ExclusiveScan (The Rule.init_part ∷ []) [] is_some is_none (λ h from o p q r. rw (p, q, r) refl) (λ us. init_there_along us) (λ us. no_name_along us) (past ts)))
+    scan_along forms.ExclusiveScan (The Rule.init_part ∷ []) [] is_some is_none (λ h from o p q r. rw (p, q, r) refl) (λ us. init_there_along us) (λ us. no_name_along us) (past ts)))
 call_by_along (k.Mark m.TransformInclusiveScan) room ts e =
     choice Rule.call 7 e refl (worded forms.TransformInclusiveScan ts e refl refl (
-      scan_along forms.TransformInclusiveScan (Maybe Rule.init_part ∷ []) (g.name ∷ []) any_start is_some (λ h from o p q r. rw (q, r) refl) (λ us. may_begin_along us) (λ us. name_there_along us) (past ts)))
+    scan_along forms.TransformInclusiveScan (Maybe Rule.init_part ∷ []) (g.name ∷ []) any_start is_some (λ h from o p q r. rw (q, r) refl) (λ us. may_begin_along us) (λ us. name_there_along us) (past ts)))
 call_by_along (k.Mark m.TransformExclusiveScan) room ts e =
     choice Rule.call 8 e refl (worded forms.TransformExclusiveScan ts e refl refl (
-      scan_along forms.TransformExclusiveScan (The Rule.init_part ∷ []) (g.name ∷ []) is_some is_some (λ h from o p q r. rw (p, q, r) refl) (λ us. init_there_along us) (λ us. name_there_along us) (past ts)))
+    scan_along forms.TransformExclusiveScan (The Rule.init_part ∷ []) (g.name ∷ []) is_some is_some (λ h from o p q r. rw (p, q, r) refl) (λ us. init_there_along us) (λ us. name_there_along us) (past ts)))
 call_by_along _ room ts e = no_choice Rule.call e refl
 
 pub call_along : (room : ℕ) (ts : List Sign) → Along (The Rule.call ∷ []) room room (Allowed spelling.call call_allowed ts) ts (call room ts)

@@ -54,7 +54,8 @@ linked : (level below : ℕ) (op : ScalarOp) (n : mark.Mark) → below < level �
 linked level below op n l o c before mid i x after q =
     subst (λ y. Linked level before y after) (sym (link-is (record { op = op; operand = x }))) (record {
       text = i ∙ ap (λ us. Mark n ∷ us) q.text ∙ ap (λ w. optional word w ((shape x).text after)) (sym c);
-      allowed = both_true (both_true o (lt-ltb (shape x).level level (omega (arith, q.within, l)))) q.allowed })
+      allowed = both_true (both_true o (lt-ltb (shape x).level level (omega (arith, q.within, l)))) q.allowed;
+    })
 
 -- a first operand and a part, and more parts
 chain_leveled : (level : ℕ) (before mid after : List Sign) (x : Shape) (y : Link) (ys : List Link) → x.level < level → x.allowed ≡ true → before ≡ x.text mid
@@ -67,7 +68,8 @@ chain_leveled level before mid after x y ys l a p q b =
     record {
       text = p ∙ ap x.text q;
       within = omega (arith, e);
-      allowed = subst (λ n. chain_allowed n x (y ∷ ys) ≡ true) (sym e) (both_true (both_true (lt-ltb x.level level l) a) b) }
+      allowed = subst (λ n. chain_allowed n x (y ∷ ys) ≡ true) (sym e) (both_true (both_true (lt-ltb x.level level l) a) b);
+    }
 
 chained_leveled : (level below : ℕ) → below < level → (before mid after : List Sign) (x : Expr) (ys : List ChainPart) → ReadAt below before x mid
     → Allowed parts_text (parts_allowed level) mid ys after → ReadAt level before (chained x ys) after
@@ -86,7 +88,7 @@ chain_of_along level lower part rule at below operand l opened agrees o_along p_
     alone rule opened (
     step (o_along ts) (λ x p.
     step (all_along (PartAt at) (Allowed parts_text (parts_allowed at)) part agrees (λ us. p_along us) (λ us. record { text = refl; allowed = refl })
-      (λ y ys before mid after q qs. record { text = q.text ∙ ap (link_text (link y)) qs.text; allowed = both_true q.allowed qs.allowed }) x.1) (λ ys q.
+    (λ y ys before mid after q qs. record { text = q.text ∙ ap (link_text (link y)) qs.text; allowed = both_true q.allowed qs.allowed }) x.1) (λ ys q.
     done (chained_leveled at below l ts x.1 ys.1 x.0 ys.0 p q))))
 
 -- ---- the three levels
@@ -149,16 +151,16 @@ module _ (room : ℕ) (inner : Parser Expr) (inner_along : ReadInside room inner
   unfolding rows chain_part
   mul_along ts =
       chain_of_along levels.Multiplying Rule.una Rule.mul_part Rule.mul 2 1 (una room inner) (omega arith) refl sees_mul (λ us. una_along room inner inner_along us)
-        (λ us. mul_part_by_along room (una room inner) (λ vs. una_along room inner inner_along vs) (ahead us) us refl) ts
+      (λ us. mul_part_by_along room (una room inner) (λ vs. una_along room inner inner_along vs) (ahead us) us refl) ts
 
   add_along : (ts : List Sign) → Along (The Rule.add ∷ []) room room (ReadAt 3 ts) ts (chain_of levels.Adding (chain_of levels.Multiplying (una room inner)) ts)
   unfolding rows chain_part
   add_along ts =
       chain_of_along levels.Adding Rule.mul Rule.add_part Rule.add 3 2 (chain_of levels.Multiplying (una room inner)) (omega arith) refl sees_add (λ us. mul_along us)
-        (λ us. add_part_by_along room (chain_of levels.Multiplying (una room inner)) (λ vs. mul_along vs) (ahead us) us refl) ts
+      (λ us. add_part_by_along room (chain_of levels.Multiplying (una room inner)) (λ vs. mul_along vs) (ahead us) us refl) ts
 
   pub bit_along : (ts : List Sign) → Along (The Rule.bit ∷ []) room room (ReadAt 4 ts) ts (chain levels.Bitwise room inner ts)
   unfolding rows chain_part
   bit_along ts =
       chain_of_along levels.Bitwise Rule.add Rule.bit_part Rule.bit 4 3 (chain_of levels.Adding (chain_of levels.Multiplying (una room inner))) (omega arith) refl sees_bit (λ us. add_along us)
-        (λ us. bit_part_by_along room (chain_of levels.Adding (chain_of levels.Multiplying (una room inner))) (λ vs. add_along vs) (ahead us) us refl) ts
+      (λ us. bit_part_by_along room (chain_of levels.Adding (chain_of levels.Multiplying (una room inner))) (λ vs. add_along vs) (ahead us) us refl) ts

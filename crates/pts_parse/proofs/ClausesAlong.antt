@@ -38,17 +38,17 @@ pub step_along : {room : ℕ} (ts : List Sign) → Along (Maybe Rule.step_part �
 unfolding reading.step rows first place
 step_along ts =
     test_along (same (k.Mark m.Step) (ahead ts))
-      (λ e. with_part Rule.step_part (sym (sees_one (k.Mark m.Step) (ahead ts)) ∙ e) (alone Rule.step_part refl (
-        behind m.Step ts (mark_seen m.Step ts e) refl refl (λ i. step (sum_along (past ts)) (λ x q. done (i ∙ ap (λ us. Mark m.Step ∷ us) q))))))
-      (λ e. without_part Rule.step_part (sym (sees_one (k.Mark m.Step) (ahead ts)) ∙ e) (done refl))
+    (λ e. with_part Rule.step_part (sym (sees_one (k.Mark m.Step) (ahead ts)) ∙ e) (alone Rule.step_part refl (
+    behind m.Step ts (mark_seen m.Step ts e) refl refl (λ i. step (sum_along (past ts)) (λ x q. done (i ∙ ap (λ us. Mark m.Step ∷ us) q))))))
+    (λ e. without_part Rule.step_part (sym (sees_one (k.Mark m.Step) (ahead ts)) ∙ e) (done refl))
 
 identity_along : {room : ℕ} (ts : List Sign) → Along (Maybe Rule.identity_part ∷ []) room room (Spelled (optional stmts.identity_part) ts) ts (identity ts)
 unfolding identity rows first place
 identity_along ts =
     test_along (same (k.Mark m.Identity) (ahead ts))
-      (λ e. with_part Rule.identity_part (sym (sees_one (k.Mark m.Identity) (ahead ts)) ∙ e) (alone Rule.identity_part refl (
-        behind m.Identity ts (mark_seen m.Identity ts e) refl refl (λ i. step (val_along (past ts)) (λ x q. done (i ∙ ap (λ us. Mark m.Identity ∷ us) q))))))
-      (λ e. without_part Rule.identity_part (sym (sees_one (k.Mark m.Identity) (ahead ts)) ∙ e) (done refl))
+    (λ e. with_part Rule.identity_part (sym (sees_one (k.Mark m.Identity) (ahead ts)) ∙ e) (alone Rule.identity_part refl (
+    behind m.Identity ts (mark_seen m.Identity ts e) refl refl (λ i. step (val_along (past ts)) (λ x q. done (i ∙ ap (λ us. Mark m.Identity ∷ us) q))))))
+    (λ e. without_part Rule.identity_part (sym (sees_one (k.Mark m.Identity) (ahead ts)) ∙ e) (done refl))
 
 -- "as" NAME
 abbrev view_text : List ℕ → Text
@@ -86,7 +86,7 @@ initial_sum_along : {room : ℕ} (negative : Bool) (x : Atom) (ts : List Sign)
 unfolding initial_sum sum_behind
 initial_sum_along {room = room} negative x ts =
     made {B = Initial} (λ y. initials.Val (vals.Sum y)) (made {B = Sum} (λ xs. record { negative = negative; first = x; rest = xs }) (sum_parts_along ts)
-      (λ xs after q. ap (λ us. spelling.minus negative (spelling.atom x us)) q)) (λ y after q. q)
+    (λ xs after q. ap (λ us. spelling.minus negative (spelling.atom x us)) q)) (λ y after q. q)
 
 -- where no bracket opens, what may follow a name is read as parts of a sum
 sum_rest_chosen : (x : SignKind) → same (k.Mark m.OpenBracket) x ≡ false → Alone (The Rule.sum_part ∷ Many Rule.sum_part ∷ []) (rows Rule.initial_rest) x
@@ -117,8 +117,8 @@ initial_behind_along : (room : ℕ) (text : List ℕ) (ts : List Sign)
 unfolding initial_behind rows first place
 initial_behind_along room text ts =
     test_along (same (k.Mark m.OpenBracket) (ahead ts))
-      (λ e. with_part Rule.initial_rest (rw e refl) (choice_by Rule.initial_rest 0 (rw e refl) (steps (index_along room ts) (λ x q. done (ap (λ us. Name text ∷ us) q)))))
-      (λ e. along_leads (sum_rest_leads ts e) (initial_sum_along false (atoms.Name text) ts))
+    (λ e. with_part Rule.initial_rest (rw e refl) (choice_by Rule.initial_rest 0 (rw e refl) (steps (index_along room ts) (λ x q. done (ap (λ us. Name text ∷ us) q)))))
+    (λ e. along_leads (sum_rest_leads ts e) (initial_sum_along false (atoms.Name text) ts))
 
 initial_by_along : (x : SignKind) (room : ℕ) (ts : List Sign) → ahead ts ≡ x → Along (The Rule.initial ∷ []) room room (Spelled stmts.initial ts) ts (initial_by x room ts)
 unfolding rows first place
@@ -178,5 +178,5 @@ pub clauses_along : (room : ℕ) (ts : List Sign)
 unfolding clauses_of clause
 clauses_along room ts =
     all_along (Allowed stmts.clause clause_allowed) (Allowed (each stmts.clause) (list_all clause_allowed)) Rule.clause sees_clause_first
-      (λ us. clause_by_along (ahead us) room us refl) (λ us. record { text = refl; allowed = refl })
-      (λ x xs before mid after q qs. record { text = q.text ∙ ap (stmts.clause x) qs.text; allowed = both_true q.allowed qs.allowed }) ts
+    (λ us. clause_by_along (ahead us) room us refl) (λ us. record { text = refl; allowed = refl })
+    (λ x xs before mid after q qs. record { text = q.text ∙ ap (stmts.clause x) qs.text; allowed = both_true q.allowed qs.allowed }) ts

@@ -41,7 +41,8 @@ comparing op n c before mid there after x y p i q =
     shaped (shape-Compare op x y) (record {
       text = p.text ∙ ap (shape x).text (i ∙ ap (λ us. Mark n ∷ us) q.text ∙ ap (λ w. optional word w ((shape y).text after)) (sym c));
       within = omega arith;
-      allowed = rw c (both_true (at_level (shape x) p) (at_level (shape y) q)) })
+      allowed = rw c (both_true (at_level (shape x) p) (at_level (shape y) q));
+    })
 
 compared_by_along : {room : ℕ} (other : Parser Expr) → ((ts : List Sign) → Along (The Rule.bit ∷ []) room room (ReadAt 4 ts) ts (other ts))
     → (s : SignKind) (before ts : List Sign) → ahead ts ≡ s → (x : Expr) → ReadAt 4 before x ts → Along (Maybe Rule.cmp_part ∷ []) room room (ReadAt 5 before) ts (compared_by (comparison s) x other ts)
@@ -107,10 +108,12 @@ members_of_along which lower part rule member opened part_opened agrees b a ts =
     alone rule opened (
     step (a ts) (λ x p.
     step (all_along (NextMember which) (Allowed (next_texts which) (members_allowed which)) part agrees
-      (λ us. alone part part_opened (skip (expect_along (connective_mark which) us b) (λ r i. last (a r) (λ y after q. record {
-        text = i ∙ ap (λ vs. Mark (connective_mark which) ∷ vs) q.text; allowed = at_level (shape y) q }))))
-      (λ us. record { text = refl; allowed = refl })
-      (λ y ys before mid after q qs. record { text = q.text ∙ ap (λ tail. Mark (connective_mark which) ∷ (shape y).text tail) qs.text; allowed = both_true q.allowed qs.allowed }) x.1) (λ ys q.
+    (λ us. alone part part_opened (skip (expect_along (connective_mark which) us b) (λ r i. last (a r) (λ y after q. record {
+      text = i ∙ ap (λ vs. Mark (connective_mark which) ∷ vs) q.text;
+      allowed = at_level (shape y) q;
+    }))))
+    (λ us. record { text = refl; allowed = refl })
+    (λ y ys before mid after q qs. record { text = q.text ∙ ap (λ tail. Mark (connective_mark which) ∷ (shape y).text tail) qs.text; allowed = both_true q.allowed qs.allowed }) x.1) (λ ys q.
     done (joined_read which ts x.1 ys.1 x.0 ys.0 p q))))
 
 sees_and : SeesRule Rule.and_part (sees_connective connectives.All)
@@ -156,14 +159,15 @@ module _ (room : ℕ) (inside : Parser Expr) (inside_along : ReadInside room ins
       done (shaped (shape-If x.0 y.0 z.0) (record {
         text = p.text ∙ ap (λ tail. Mark m.If ∷ (shape x.0).text tail) (q.text ∙ ap (λ tail. Mark m.Then ∷ (shape y.0).text tail) s.text);
         within = omega arith;
-        allowed = both_true (both_true p.allowed q.allowed) s.allowed })))))
+        allowed = both_true (both_true p.allowed q.allowed) s.allowed;
+      })))))
 
   expr_of_along : (ts : List Sign) → Along (The Rule.expr ∷ []) room room (ReadAt 8 ts) ts (expr_of room inside ts)
   unfolding expr_of rows first place
   expr_of_along ts =
       test_along (same (k.Mark m.If) (ahead ts))
-        (λ e. choice_by Rule.expr 1 (rw e refl) (if_else_along ts))
-        (λ e. choice Rule.expr 0 refl (rw e refl) (last (or_along ts) (λ x after q. wider 8 (omega arith) q)))
+      (λ e. choice_by Rule.expr 1 (rw e refl) (if_else_along ts))
+      (λ e. choice Rule.expr 0 refl (rw e refl) (last (or_along ts) (λ x after q. wider 8 (omega arith) q)))
 
 -- where no bracket may open, none is read
 none_inside : (inside : Parser Expr) → ReadInside 0 inside

@@ -58,7 +58,7 @@ next_vals_along : {room : ℕ} (ts : List Sign) → Along (Many Rule.next_val �
 unfolding next_vals sees_comma first
 next_vals_along ts =
     all_along (Spelled scripts.next_val) (Spelled (each scripts.next_val)) Rule.next_val (λ x. sees_one (k.Mark m.Comma) x) (λ us. next_val_along us) (λ us. refl)
-      (λ x xs before mid after q qs. q ∙ ap (scripts.next_val x) qs) ts
+    (λ x xs before mid after q qs. q ∙ ap (scripts.next_val x) qs) ts
 
 vals_along : {room : ℕ} (ts : List Sign) → Along (The Rule.val ∷ Many Rule.next_val ∷ []) room room (Allowed scripts.vals is_filled ts) ts (vals ts)
 unfolding vals
@@ -98,7 +98,7 @@ index_text x tail = Mark m.OpenBracket ∷ spelling.sum x (Mark m.CloseBracket �
 
 array_along : (room : ℕ) (ts : List Sign)
     → Along (g.name ∷ g.mark m.Colon ∷ The Rule.kind ∷ g.mark m.OpenBracket ∷ The Rule.sum ∷ g.mark m.CloseBracket ∷ g.mark m.Equal ∷ The Rule.start ∷ g.mark m.Semicolon ∷ []) room room
-      (Declared m.Array ts) ts (array_decl room ts)
+    (Declared m.Array ts) ts (array_decl room ts)
 unfolding array_decl
 array_along room ts =
     steps (typed_along ts) (λ h p.
@@ -120,7 +120,7 @@ next_params_along : {room : ℕ} (ts : List Sign) → Along (Many Rule.next_para
 unfolding next_params sees_comma first
 next_params_along ts =
     all_along (Spelled scripts.next_param) (Spelled (each scripts.next_param)) Rule.next_param (λ x. sees_one (k.Mark m.Comma) x) (λ us. next_param_along us) (λ us. refl)
-      (λ x xs before mid after q qs. q ∙ ap (scripts.next_param x) qs) ts
+    (λ x xs before mid after q qs. q ∙ ap (scripts.next_param x) qs) ts
 
 params_along : {room : ℕ} (ts : List Sign) → Along (The Rule.param ∷ Many Rule.next_param ∷ []) room room (Allowed scripts.params is_filled ts) ts (params ts)
 unfolding params
@@ -153,7 +153,7 @@ result_along ts = skip (expect_along m.Arrow ts refl) (λ r i. last (kind_along 
 
 function_along : (room : ℕ) (ts : List Sign)
     → Along (g.name ∷ g.mark m.OpenParen ∷ The Rule.param ∷ Many Rule.next_param ∷ g.mark m.CloseParen ∷ g.mark m.Arrow ∷ The Rule.kind ∷ g.mark m.Equal ∷ The Rule.expr ∷ g.mark m.Semicolon ∷ []) room room
-      (Declared m.Function ts) ts (function_decl room ts)
+    (Declared m.Function ts) ts (function_decl room ts)
 unfolding function_decl
 function_along room ts =
     steps (signature_along room ts) (λ h p.
@@ -197,5 +197,5 @@ pub item_list_along : (room : ℕ) (ts : List Sign)
 unfolding item_list item
 item_list_along room ts =
     all_along (Allowed scripts.item item_allowed) (Allowed (each scripts.item) (list_all item_allowed)) Rule.item sees_item_first
-      (λ us. item_by_along (ahead us) room us refl) (λ us. record { text = refl; allowed = refl })
-      (λ x xs before mid after q qs. record { text = q.text ∙ ap (scripts.item x) qs.text; allowed = both_true q.allowed qs.allowed }) ts
+    (λ us. item_by_along (ahead us) room us refl) (λ us. record { text = refl; allowed = refl })
+    (λ x xs before mid after q qs. record { text = q.text ∙ ap (scripts.item x) qs.text; allowed = both_true q.allowed qs.allowed }) ts

@@ -54,7 +54,7 @@ bounds_along ts =
 -- a loop behind its word
 behind_word : (room : ℕ) (ts : List Sign)
     → Along (The Rule.policy ∷ g.name ∷ g.mark m.Equal ∷ The Rule.sum ∷ g.mark m.To ∷ The Rule.sum ∷ Maybe Rule.step_part ∷ Many Rule.clause
-        ∷ g.mark m.OpenBrace ∷ Many Rule.bstmt ∷ g.mark m.CloseBrace ∷ []) room room (Allowed stmts.loop loop_allowed (Mark m.ForLoop ∷ ts)) ts (loop_behind room ts)
+    ∷ g.mark m.OpenBrace ∷ Many Rule.bstmt ∷ g.mark m.CloseBrace ∷ []) room room (Allowed stmts.loop loop_allowed (Mark m.ForLoop ∷ ts)) ts (loop_behind room ts)
 unfolding loop_behind
 behind_word room ts =
     steps (head_along ts) (λ h p.
@@ -63,7 +63,8 @@ behind_word room ts =
     steps (body_along room cs.1) (λ xs t.
     done (record {
       text = ap (λ us. Mark m.ForLoop ∷ us) (p ∙ ap (head_text h.0) (q ∙ ap (bounds_text x.0) (s.text ∙ ap (each stmts.clause cs.0) t.text)));
-      allowed = both_true s.allowed t.allowed })))))
+      allowed = both_true s.allowed t.allowed;
+    })))))
 
 -- a loop, of which the word was looked at
 pub loop_along : (room : ℕ) (ts : List Sign) → ahead ts ≡ k.Mark m.ForLoop → Along (The Rule.loop ∷ []) room room (Allowed stmts.loop loop_allowed ts) ts (loop_behind room (past ts))

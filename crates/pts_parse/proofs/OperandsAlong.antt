@@ -91,14 +91,16 @@ module _ (room : ℕ) (inner : Parser Expr) (inner_along : ReadInside room inner
   unfolding next_argument rows
   next_argument_along l ts =
       alone Rule.next_argument refl (skip (expect_along m.Comma ts refl) (λ r p. last (inner_along l r) (λ x after q. record {
-        text = p ∙ ap (λ us. Mark m.Comma ∷ us) q.text; allowed = q.allowed })))
+        text = p ∙ ap (λ us. Mark m.Comma ∷ us) q.text;
+        allowed = q.allowed;
+      })))
 
   next_arguments_along : 0 < room → (ts : List Sign) → Along (Many Rule.next_argument ∷ []) (room - 1) (room - 1) (Allowed next_texts all_allowed ts) ts (next_arguments inner ts)
   unfolding next_arguments first sees_comma
   next_arguments_along l ts =
       all_along (Allowed (exprs.next_expr m.Comma) exprs.expr_allowed) (Allowed next_texts all_allowed) Rule.next_argument (λ x. sees_one (k.Mark m.Comma) x)
-        (λ us. next_argument_along l us) (λ us. record { text = refl; allowed = refl })
-        (λ x xs before mid after q qs. record { text = q.text ∙ ap (exprs.next_expr m.Comma x) qs.text; allowed = both_true q.allowed qs.allowed }) ts
+      (λ us. next_argument_along l us) (λ us. record { text = refl; allowed = refl })
+      (λ x xs before mid after q qs. record { text = q.text ∙ ap (exprs.next_expr m.Comma x) qs.text; allowed = both_true q.allowed qs.allowed }) ts
 
   arguments_along : 0 < room → (ts : List Sign)
       → Along (The Rule.expr ∷ Many Rule.next_argument ∷ []) (room - 1) (room - 1) (Allowed arguments_text arguments_allowed ts) ts (arguments inner ts)
@@ -119,7 +121,8 @@ module _ (room : ℕ) (inner : Parser Expr) (inner_along : ReadInside room inner
       done (shaped (shape-Call text xs.0) (record {
         text = ap (λ us. Name text ∷ us) (p.0 ∙ ap (λ us. Mark m.OpenParen ∷ us) (q.text ∙ ap (arguments_text xs.0) s));
         within = omega arith;
-        allowed = q.allowed })))))
+        allowed = q.allowed;
+      })))))
 
   element_along : (text : List ℕ) (ts : List Sign)
       → Along (g.mark m.OpenBracket ∷ The Rule.expr ∷ g.mark m.CloseBracket ∷ []) room room (ReadAt 0 (Name text ∷ ts)) ts (element text room inner ts)

@@ -80,4 +80,4 @@ pub script_along : (room : ℕ) (ts : List Sign) → Whole (The Rule.script ∷ 
 unfolding finish
 script_along room ts =
     rw (end_behind room ts) (whole_along (λ xs. finish xs.0 xs.1) (λ xs. record { version = 1; items = xs }) (λ xs. refl) (λ xs t after. refl) (items_along room ts)
-      (λ xs q. record { text = q.text; allowed = q.allowed }))
+    (λ xs q. record { text = q.text; allowed = q.allowed }))

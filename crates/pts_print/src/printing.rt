@@ -6,9 +6,9 @@ ghost use Rattle.pts_tree.specs.Scripts.{header};
 ghost use Rattle.pts_tree.specs.Spelling as spec;
 ghost use Rattle.pts_print.specs.Printing.{Puts};
 
-use pts_tree::{Item, Mark, Name, Script};
 use items::{put_header, put_item};
 use itoa::Buffer;
+use pts_tree::{Item, Mark, Name, Script};
 use pts_types::NoMemory;
 use std::alloc::{AllocError, Global};
 

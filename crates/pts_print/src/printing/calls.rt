@@ -4,9 +4,9 @@ ghost use Rattle.std.specs.Prelude.{◌≡◌, OnOk};
 ghost use Rattle.pts_tree.specs.Spelling as spec;
 ghost use Rattle.pts_print.specs.Printing.{Puts};
 
-use pts_tree::{Call, CallForm, Cell, Mark, Name, Op, Range, Val};
 use super::sums::{put_cell, put_range, put_val};
 use super::{put_mark, put_name};
+use pts_tree::{Call, CallForm, Cell, Mark, Name, Op, Range, Val};
 use pts_types::{Kind, Policy, ScalarOp};
 use std::alloc::AllocError;
 

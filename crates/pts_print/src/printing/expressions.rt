@@ -5,9 +5,9 @@ ghost use Rattle.pts_tree.specs.Expressions as spec;
 ghost use Rattle.pts_tree.specs.Spelling.{each, separated};
 ghost use Rattle.pts_print.specs.Printing.{Puts};
 
-use pts_tree::{ChainPart, Expr, Mark, Name};
 use super::calls::{kind_mark, put_optional_mark};
 use super::{put_mark, put_name, put_number};
+use pts_tree::{ChainPart, Expr, Mark, Name};
 use pts_types::{Kind, ScalarOp};
 use std::alloc::AllocError;
 

@@ -5,12 +5,12 @@ ghost use Rattle.pts_tree.specs.Spelling.{each, separated, val};
 ghost use Rattle.pts_tree.specs.Scripts as spec;
 ghost use Rattle.pts_print.specs.Printing.{Puts};
 
-use pts_tree::{ArrayDecl, ConstDecl, FunctionDecl, Item, Mark, Name, Param, Start, Sum, Val};
 use super::calls::{kind_mark, put_call};
 use super::expressions::put_expr;
 use super::statements::{put_block, put_loop};
 use super::sums::{put_sum, put_val};
 use super::{put_mark, put_name, put_number};
+use pts_tree::{ArrayDecl, ConstDecl, FunctionDecl, Item, Mark, Name, Param, Start, Sum, Val};
 use std::alloc::AllocError;
 
 fn put_const(out: &mut Vec<u8>, decl: &ConstDecl) -> Result<(), AllocError>

@@ -5,11 +5,14 @@ ghost use Rattle.pts_tree.specs.Spelling.{each, optional};
 ghost use Rattle.pts_tree.specs.Statements as spec;
 ghost use Rattle.pts_print.specs.Printing.{Puts};
 
-use pts_tree::{Block, BodyStmt, Cell, Clause, Expr, InductClause, Initial, Loop, Mark, Name, Place, ReduceClause, Sum, TaskStmt, Val};
 use super::calls::{kind_mark, policy_mark, put_call, put_op, put_optional_mark};
 use super::expressions::{put_element, put_expr, put_throw};
 use super::sums::{put_cell, put_sum, put_val};
 use super::{put_mark, put_name};
+use pts_tree::{
+    Block, BodyStmt, Cell, Clause, Expr, InductClause, Initial, Loop, Mark, Name, Place,
+    ReduceClause, Sum, TaskStmt, Val,
+};
 use pts_types::ScalarOp;
 use std::alloc::AllocError;
 

@@ -4,8 +4,8 @@ ghost use Rattle.std.specs.Prelude.{OnOk};
 ghost use Rattle.pts_tree.specs.Spelling as spec;
 ghost use Rattle.pts_print.specs.Printing.{Puts};
 
-use pts_tree::{Atom, Cell, Mark, Range, Sum, SumPart, Val};
 use super::{put_mark, put_name, put_number};
+use pts_tree::{Atom, Cell, Mark, Range, Sum, SumPart, Val};
 use std::alloc::AllocError;
 
 fn put_atom(out: &mut Vec<u8>, atom: &Atom) -> Result<(), AllocError>
