@@ -12,3 +12,4 @@ pub mod Lookahead
 pub mod Fronts
 pub mod Endings
 pub mod SumsAlong
+pub mod Again
