@@ -123,6 +123,10 @@ pub record Repeats {A : Type 0} (sees : SignKind → Bool) (Ends : List Sign →
   pub ends : (ts : List Sign) → Ends (spell x ts)
   pub back : (ts : List Sign) → Ends ts → Gets 1 (spell x ts) ts (x, ts) (part (spell x ts))
 
+-- whatever follows
+abbrev pub Anything : List Sign → Type 0
+Anything ts = Unit {0}
+
 filled : (sees : SignKind → Bool) (ts : List Sign) → sees k.End ≡ false → sees (ahead ts) ≡ true → 1 ≤ length ts
 filled sees [] e h = absurd (true≢false (sym h ∙ e))
 filled sees (t ∷ ts) e h = omega arith
@@ -144,7 +148,7 @@ many_again {A = A} {sees = sees} {Ends = Ends} {part = part} {spell = spell} (on
     follows (one {xs = ys} r rs) = r.ends (each spell ys tail)
 
 -- a part any number of times
-pub each_again : {A : Type 0} {sees : SignKind → Bool} {Ends : List Sign → Type 0} {part : Parser A} {spell : A → Text} {xs : List A}
+pub each_again : {A : Type 0} {sees : SignKind → Bool} {part : Parser A} {spell : A → Text} {xs : List A} (Ends : List Sign → Type 0)
     → Each (Repeats sees Ends part spell) xs → sees k.End ≡ false → (tail : List Sign) → sees (ahead tail) ≡ false → Ends tail
     → Gets 0 (each spell xs tail) tail (xs, tail) (each_of sees part (each spell xs tail))
-each_again {spell = spell} {xs = xs} rs e tail h l = many_again rs e tail h l (length (each spell xs tail)) (omega arith)
+each_again {spell = spell} {xs = xs} Ends rs e tail h l = many_again rs e tail h l (length (each spell xs tail)) (omega arith)

@@ -13,3 +13,4 @@ pub mod Fronts
 pub mod Endings
 pub mod SumsAlong
 pub mod Again
+pub mod SumsAgain
