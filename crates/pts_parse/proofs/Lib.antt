@@ -14,3 +14,4 @@ pub mod Endings
 pub mod SumsAlong
 pub mod Again
 pub mod SumsAgain
+pub mod CallsAgain
