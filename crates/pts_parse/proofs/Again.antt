@@ -117,6 +117,11 @@ pub each_passed : {A : Type 0} {P : A → Type 0} (test : A → Bool) → ((x : 
 each_passed test h [] e = none
 each_passed test h (x ∷ xs) e = let both = and_both (test x) (list_all test xs) e in one (h x both.0) (each_passed test h xs both.1)
 
+-- from one fact of each element to another
+pub each_to : {A : Type 0} {P Q : A → Type 0} {xs : List A} → ((x : A) → P x → Q x) → Each P xs → Each Q xs
+each_to h none = none
+each_to h (one p ps) = one (h _ p) (each_to h ps)
+
 -- what is asked of a part that is read any number of times: its first sign says that it follows, it may stand behind another one, and it is given back before what may follow it
 pub record Repeats {A : Type 0} (sees : SignKind → Bool) (Ends : List Sign → Type 0) (part : Parser A) (spell : A → Text) (x : A) : Type 0 where
   pub seen : (ts : List Sign) → sees (ahead (spell x ts)) ≡ true
@@ -152,3 +157,12 @@ pub each_again : {A : Type 0} {sees : SignKind → Bool} {part : Parser A} {spel
     → Each (Repeats sees Ends part spell) xs → sees k.End ≡ false → (tail : List Sign) → sees (ahead tail) ≡ false → Ends tail
     → Gets 0 (each spell xs tail) tail (xs, tail) (each_of sees part (each spell xs tail))
 each_again {spell = spell} {xs = xs} Ends rs e tail h l = many_again rs e tail h l (length (each spell xs tail)) (omega arith)
+
+none_many : {A : Type 0} (sees : SignKind → Bool) (part : Parser A) (tail : List Sign) → sees (ahead tail) ≡ false → (n : ℕ) → Gets 0 tail tail ([], tail) (many sees part n tail)
+unfolding many
+none_many sees part tail h zero = done
+none_many sees part tail h (suc n) = otherwise _ (sees (ahead tail)) h done
+
+-- no part follows
+pub none_again : {A : Type 0} (sees : SignKind → Bool) (part : Parser A) (tail : List Sign) → sees (ahead tail) ≡ false → Gets 0 tail tail ([], tail) (each_of sees part tail)
+none_again {A} sees part tail h = none_many sees part tail h (length tail)

@@ -15,3 +15,4 @@ pub mod SumsAlong
 pub mod Again
 pub mod SumsAgain
 pub mod CallsAgain
+pub mod LevelsAgain
