@@ -16,3 +16,4 @@ pub mod Again
 pub mod SumsAgain
 pub mod CallsAgain
 pub mod LevelsAgain
+pub mod ExprsAgain
