@@ -30,11 +30,11 @@ use Rattle.pts_parse.specs.declared.expressions.Level.TheVariants as levels
 use Rattle.pts_parse.specs.declared.expressions.Connective.{Connective}
 use Rattle.pts_parse.specs.declared.expressions.Connective.TheVariants as connectives
 use Rattle.pts_parse.specs.Reading.{Read, Parser, ahead}
-use Rattle.pts_parse.specs.ExprReading.{enclosed, next_argument, sees_comma, next_arguments, arguments, function_call, element, name_rest, convert, paren, prim_by, prim, una, operator, sees_operator, chain_part_by, chain_part, chain_parts, chain_of, operand, chain, comparison, compared_by, compared, connective_mark, sees_connective, next_member, next_members, members_of, member, members, branch, if_else, expr_of, expr, inner}
+use Rattle.pts_parse.specs.ExprReading.{enclosed, next_argument, sees_comma, next_arguments, arguments, function_call, element, name_rest, convert, paren, prim_by, prim, una, operator, sees_operator, chain_part_by, chain_part, chain_parts, chain_of, operand, chain, comparison, compared_by, compared, connective_mark, sees_connective, next_member, next_members, joined, members_of, member, members, branch, if_else, expr_of, expr, inner}
 use Rattle.pts_parse.proofs.KindFacts.{and_both}
 use Rattle.pts_parse.proofs.Again.{Gets, got, done, next, behind_sign, in_case, same_mark, expect_again, open_again, name_again, number_again, by_number, Each, none, one, each_to, Repeats, each_again}
 use Rattle.pts_parse.proofs.SumsAgain.{kind_again}
-use Rattle.pts_parse.proofs.LevelsAgain.{reach, opens, height, member_level, reader, name_ends, Fits, fits, whole, inside}
+use Rattle.pts_parse.proofs.LevelsAgain.{reach, opens, height, member_level, reader, name_ends, no_operator, no_connective, Fits, fits, whole, inside}
 
 -- an expression is read back
 abbrev pub FitsExpr : Expr → Type 0
@@ -201,3 +201,264 @@ unfolding sees_operator operator
 no_part levels.Multiplying = refl
 no_part levels.Adding = refl
 no_part levels.Bitwise = refl
+
+-- a chain of this level
+chain_again : (level : Level) (x : Expr) (y : ChainPart) (ys : List ChainPart) → FitsExpr x → (shape x).level < height level → Each (IsPart (height level)) (y ∷ ys)
+    → (room : ℕ) (tail : List Sign) → height level < reach (ahead tail)
+    → Gets 1 (spelled.chain x (y ∷ ys) tail) tail (e.Chain x (y ∷ ys), tail) (chain level room (inner room) (spelled.chain x (y ∷ ys) tail))
+unfolding chain_of chain_parts
+chain_again level x y ys f l ps room tail h =
+    next _ (operand_again level x f l room (each spelled.chain_part (y ∷ ys) tail) (follows parts))
+      (next _ (each_again (λ ts. height level ≤ reach (ahead ts)) parts (no_part level) tail (no_operator level (ahead tail) h) (omega arith)) done)
+  where
+    parts : Each (Repeats (sees_operator level) (λ ts. height level ≤ reach (ahead ts)) (chain_part level (operand level room (inner room))) spelled.chain_part) (y ∷ ys)
+    parts = each_to (λ z p. part_repeats level room z p) ps
+
+    follows : {zs : List ChainPart} → Each (Repeats (sees_operator level) (λ ts. height level ≤ reach (ahead ts)) (chain_part level (operand level room (inner room))) spelled.chain_part) zs
+        → height level ≤ reach (ahead (each spelled.chain_part zs tail))
+    follows none = omega arith
+    follows (one {xs = zs} r rs) = r.ends (each spelled.chain_part zs tail)
+
+-- a chain is read at the level of its operators
+chain_read : (level : Level) {before tail : List Sign} {x : Expr} (room : ℕ) → Gets 1 before tail (x, tail) (chain level room (inner room) before) → Gets 1 before tail (x, tail) (reader (height level) room before)
+chain_read levels.Multiplying room g = g
+chain_read levels.Adding room g = g
+chain_read levels.Bitwise room g = g
+
+height_within : (level : Level) → height level ≤ 8
+height_within levels.Multiplying = omega arith
+height_within levels.Adding = omega arith
+height_within levels.Bitwise = omega arith
+
+chain_fits : (level : Level) (x : Expr) (y : ChainPart) (ys : List ChainPart) → FitsExpr x → (shape x).level < height level → Each (IsPart (height level)) (y ∷ ys)
+    → Fits (spelled.chain x (y ∷ ys)) (height level) (e.Chain x (y ∷ ys))
+chain_fits level x y ys f l ps = fits (spelled.chain x (y ∷ ys)) (height level) (e.Chain x (y ∷ ys)) (height_within level)
+    (λ tail. omega (arith, f.begins (each spelled.chain_part (y ∷ ys) tail)))
+    (λ room tail h. chain_read level room (chain_again level x y ys f l ps room tail h))
+
+-- ---- comparisons
+
+-- what spells a comparison
+record Comparison (o : ScalarOp) : Type 0 where
+  sign : mark.Mark
+  spells : compare_mark o ≡ Some sign
+  seen : comparison (k.Mark sign) ≡ Some o
+  reaches : 4 < reach (k.Mark sign)
+
+comparison_of : (o : ScalarOp) → is_some (compare_mark o) ≡ true → Comparison o
+unfolding comparison
+comparison_of ops.Equal i = record { sign = m.EqualEqual; spells = refl; seen = refl; reaches = omega arith }
+comparison_of ops.NotEqual i = record { sign = m.ExclamationEqual; spells = refl; seen = refl; reaches = omega arith }
+comparison_of ops.Less i = record { sign = m.Less; spells = refl; seen = refl; reaches = omega arith }
+comparison_of ops.LessEqual i = record { sign = m.LessEqual; spells = refl; seen = refl; reaches = omega arith }
+comparison_of ops.Greater i = record { sign = m.Greater; spells = refl; seen = refl; reaches = omega arith }
+comparison_of ops.GreaterEqual i = record { sign = m.GreaterEqual; spells = refl; seen = refl; reaches = omega arith }
+comparison_of _ i = absurd (true≢false (sym i))
+
+compared_again : (o : ScalarOp) (x y : Expr) (sign : mark.Mark) → comparison (k.Mark sign) ≡ Some o → 4 < reach (k.Mark sign) → FitsExpr x → (shape x).level ≤ 4 → FitsExpr y → (shape y).level ≤ 4
+    → (room : ℕ) (tail : List Sign) → 4 < reach (ahead tail)
+    → Gets 1 (spelled.expr x (Mark sign ∷ spelled.expr y tail)) tail (e.Compare o x y, tail) (compared room (inner room) (spelled.expr x (Mark sign ∷ spelled.expr y tail)))
+unfolding compared
+compared_again o x y sign i r f l g n room tail h =
+    next _ (f.back 4 l (omega arith) room (Mark sign ∷ spelled.expr y tail) r)
+      (subst (λ q. Gets 1 (Mark sign ∷ spelled.expr y tail) tail (e.Compare o x y, tail) (compared_by q x (chain levels.Bitwise room (inner room)) (Mark sign ∷ spelled.expr y tail))) (sym i)
+        (behind_sign (next _ (g.back 4 n (omega arith) room tail h) done)))
+
+compare_fits : (o : ScalarOp) (x y : Expr) → Comparison o → FitsExpr x → (shape x).level ≤ 4 → FitsExpr y → (shape y).level ≤ 4 → Fits (spelled.compare o x y) 5 (e.Compare o x y)
+compare_fits o x y c f l g n = fits (spelled.compare o x y) 5 (e.Compare o x y) (omega arith)
+    (λ tail. omega (arith, f.begins (optional word (compare_mark o) (spelled.expr y tail))))
+    (λ room tail h. subst (λ q. Gets 1 (spelled.expr x (optional word q (spelled.expr y tail))) tail (e.Compare o x y, tail) (compared room (inner room) (spelled.expr x (optional word q (spelled.expr y tail))))) (sym c.spells)
+      (compared_again o x y c.sign c.seen c.reaches f l g n room tail (omega arith)))
+
+-- ---- members
+
+-- a member that may be joined so
+record IsMember (which : Connective) (x : Expr) : Type 0 where
+  lower : (shape x).level ≤ member_level which
+  fit : FitsExpr x
+
+member_again : (which : Connective) (x : Expr) → IsMember which x → (room : ℕ) (tail : List Sign) → member_level which < reach (ahead tail)
+    → Gets 1 (spelled.expr x tail) tail (x, tail) (member which room (inner room) (spelled.expr x tail))
+member_again connectives.All x f room tail h = f.fit.back 5 f.lower (omega arith) room tail h
+member_again connectives.Any x f room tail h = f.fit.back 6 f.lower (omega arith) room tail h
+
+connective_reaches : (which : Connective) → member_level which < reach (k.Mark (connective_mark which))
+connective_reaches connectives.All = omega arith
+connective_reaches connectives.Any = omega arith
+
+member_repeats : (which : Connective) (room : ℕ) (x : Expr) → IsMember which x
+    → Repeats (sees_connective which) (λ ts. member_level which < reach (ahead ts)) (next_member which (member which room (inner room))) (λ y rest. Mark (connective_mark which) ∷ spelled.expr y rest) x
+unfolding sees_connective next_member
+member_repeats which room x f = record {
+    seen = λ ts. same_mark (connective_mark which);
+    ends = λ ts. connective_reaches which;
+    back = λ ts l. next _ (expect_again (connective_mark which) _) (member_again which x f room ts l) }
+
+no_member : (which : Connective) → sees_connective which k.End ≡ false
+unfolding sees_connective
+no_member which = refl
+
+-- members that are joined
+joined_of : Connective → List Expr → Expr
+joined_of connectives.All xs = e.All xs
+joined_of connectives.Any xs = e.Any xs
+
+-- what was read and the signs behind it
+abbrev answer : Expr → List Sign → Read Expr
+answer x ts = Ok (x, ts)
+
+members_again : (which : Connective) (x y : Expr) (ys : List Expr) → IsMember which x → Each (IsMember which) (y ∷ ys) → (room : ℕ) (tail : List Sign) → suc (member_level which) < reach (ahead tail)
+    → Gets 1 (separated (connective_mark which) spelled.expr (x ∷ y ∷ ys) tail) tail (joined_of which (x ∷ y ∷ ys), tail)
+        (members which room (inner room) (separated (connective_mark which) spelled.expr (x ∷ y ∷ ys) tail))
+unfolding members_of next_members joined_of
+members_again which x y ys f fs room tail h =
+    next _ (member_again which x f room _ (connective_reaches which))
+      (next _ (each_again (λ ts. member_level which < reach (ahead ts)) (each_to (λ z g. member_repeats which room z g) fs) (no_member which) tail (no_connective which (ahead tail) h) (omega arith)) (by which))
+  where
+    by : (which : Connective) → Gets 0 tail tail (joined_of which (x ∷ y ∷ ys), tail) (answer (joined which x (y ∷ ys)) tail)
+    by connectives.All = done
+    by connectives.Any = done
+
+all_fits : (xs : List Expr) → has_two xs ≡ true → Each (IsMember connectives.All) xs → Fits (separated m.AmpersandAmpersand spelled.expr xs) 6 (e.All xs)
+unfolding joined_of
+all_fits [] a fs = absurd (true≢false (sym a))
+all_fits (x ∷ []) a fs = absurd (true≢false (sym a))
+all_fits (x ∷ y ∷ ys) a (one f fs) = fits (separated m.AmpersandAmpersand spelled.expr (x ∷ y ∷ ys)) 6 (e.All (x ∷ y ∷ ys)) (omega arith)
+    (λ tail. omega (arith, f.lower, f.fit.begins (each (λ z rest. Mark m.AmpersandAmpersand ∷ spelled.expr z rest) (y ∷ ys) tail)))
+    (λ room tail h. members_again connectives.All x y ys f fs room tail h)
+
+any_fits : (xs : List Expr) → has_two xs ≡ true → Each (IsMember connectives.Any) xs → Fits (separated m.BarBar spelled.expr xs) 7 (e.Any xs)
+unfolding joined_of
+any_fits [] a fs = absurd (true≢false (sym a))
+any_fits (x ∷ []) a fs = absurd (true≢false (sym a))
+any_fits (x ∷ y ∷ ys) a (one f fs) = fits (separated m.BarBar spelled.expr (x ∷ y ∷ ys)) 7 (e.Any (x ∷ y ∷ ys)) (omega arith)
+    (λ tail. omega (arith, f.lower, f.fit.begins (each (λ z rest. Mark m.BarBar ∷ spelled.expr z rest) (y ∷ ys) tail)))
+    (λ room tail h. members_again connectives.Any x y ys f fs room tail h)
+
+-- ---- branches
+
+branch_again : (sign : mark.Mark) (x : Expr) → FitsExpr x → (shape x).level ≤ 7 → (room : ℕ) (tail : List Sign) → 7 < reach (ahead tail)
+    → Gets 1 (Mark sign ∷ spelled.expr x tail) tail (x, tail) (branch sign room (inner room) (Mark sign ∷ spelled.expr x tail))
+unfolding branch
+branch_again sign x f l room tail h = next _ (expect_again sign _) (f.back 7 l (omega arith) room tail h)
+
+if_fits : (x y z : Expr) → FitsExpr x → (shape x).level ≤ 7 → FitsExpr y → (shape y).level ≤ 7 → FitsExpr z → (shape z).level ≤ 7 → Fits (spelled.if_else x y z) 8 (e.If x y z)
+unfolding expr_of if_else
+if_fits x y z f l g n h o = fits (spelled.if_else x y z) 8 (e.If x y z) (omega arith) (λ tail. omega arith)
+    (λ room tail r. in_case _ (same (k.Mark m.If) (k.Mark m.If)) (same_mark m.If) (
+      next _ (branch_again m.If x f l room _ (omega arith)) (
+      next _ (branch_again m.Then y g n room _ (omega arith)) (
+      next _ (branch_again m.Else z h o room tail (omega arith)) done))))
+
+-- ---- all expressions
+
+-- an expression that the grammar has is read back
+abbrev pub Back : Expr → Type 0
+Back x = expr_allowed x ≡ true → FitsExpr x
+
+-- from how an expression is spelled and allowed
+from_shape : (x : Expr) (s : Shape) (text : Text) → shape x ≡ s → ◌≡◌ {A = Text} (spelled.expr x) text → (s.allowed ≡ true → Fits text s.level x) → Back x
+from_shape x s text p q g a = subst (λ t. Fits t (shape x).level x) (sym q) (subst (λ r. Fits text r.level x) (sym p) (g (subst (λ r. r.allowed ≡ true) p a)))
+
+-- an expression that is allowed at a level
+at_level : (n : ℕ) (x : Expr) → is_at n (shape x) ≡ true → ((shape x).level ≤ n) × (expr_allowed x ≡ true)
+at_level n x a = let both = and_both (nat_le (shape x).level n) (shape x).allowed a in (leb-true (shape x).level n both.0, both.1)
+
+-- an expression with what is known of it
+abbrev Known : Type 0
+Known = (x : Expr) × Back x
+
+-- what a test says of each of these
+each_known : (Q : Expr → Type 0) (test : Shape → Bool) → ((x : Expr) → Back x → test (shape x) ≡ true → Q x) → (xs : List Known) → list_all test (map shape (map (λ y. y.0) xs)) ≡ true
+    → Each Q (map (λ y. y.0) xs)
+each_known Q test h [] a = none
+each_known Q test h (x ∷ xs) a = let both = and_both (test (shape x.0)) (list_all test (map shape (map (λ y. y.0) xs))) a in one (h x.0 x.1 both.0) (each_known Q test h xs both.1)
+
+-- a part of a chain with what is known of its operand
+abbrev KnownPart : Type 0
+KnownPart = (x : ChainPart) × Back x.operand
+
+each_part : (n : ℕ) (xs : List KnownPart) → list_all (is_link n) (map link (map (λ y. y.0) xs)) ≡ true → Each (IsPart n) (map (λ y. y.0) xs)
+each_part n [] a = none
+each_part n (x ∷ xs) a =
+    let both = and_both (is_link n (link x.0)) (list_all (is_link n) (map link (map (λ y. y.0) xs))) a in
+    let here = subst (λ y. is_link n y ≡ true) (link-is x.0) both.0 in
+    let two = and_both (operator_level x.0.op == n && nat_lt (shape x.0.operand).level n) (shape x.0.operand).allowed here in
+    let first = and_both (operator_level x.0.op == n) (nat_lt (shape x.0.operand).level n) two.0 in
+    one (record { same_level = eqb-true (operator_level x.0.op) n first.0; lower = leb-true (suc (shape x.0.operand).level) n first.1; fit = x.1 two.1 }) (each_part n xs both.1)
+
+-- a chain, at the level of its first operator
+chain_at : (x : Expr) → Back x → (n : ℕ) (ys : List ChainPart) → nat_lt (shape x).level n && (shape x).allowed ≡ true → Each (IsPart n) ys → n ≡ chain_level (map link ys)
+    → Fits (spelled.chain x ys) n (e.Chain x ys)
+chain_at x f n [] a ps i = absurd (let both = and_both (nat_lt (shape x).level n) (shape x).allowed a in let l = leb-true (suc (shape x).level) n both.0 in omega arith)
+chain_at x f n (y ∷ ys) a (one p ps) i =
+    let both = and_both (nat_lt (shape x).level n) (shape x).allowed a in
+    let l = leb-true (suc (shape x).level) n both.0 in
+    let level = level_of y.op (omega (arith, p.same_level)) in
+    let same = level.1 ∙ p.same_level in
+    subst (λ h. Fits (spelled.chain x (y ∷ ys)) h (e.Chain x (y ∷ ys))) same
+      (chain_fits level.0 x y ys (f both.1) (omega arith) (subst (λ h. Each (IsPart h) (y ∷ ys)) (sym same) (one p ps)))
+
+filled_map : (zs : List Known) → is_filled (map shape (map (λ z. z.0) zs)) ≡ true → is_filled (map (λ (z : Known). z.0) zs) ≡ true
+filled_map [] a = a
+filled_map (z ∷ zs) a = a
+
+two_map : (zs : List Known) → has_two (map shape (map (λ z. z.0) zs)) ≡ true → has_two (map (λ (z : Known). z.0) zs) ≡ true
+two_map [] a = a
+two_map (y ∷ zs) a = filled_map zs a
+
+by_case : (y : Expr-F Known KnownPart) → Back (roll-Expr (map-Expr Known KnownPart Expr ChainPart (λ z. z.0) (λ z. z.0) y))
+by_case (Expr-F.Number n) = subst Back (sym (e.rolls-Number n)) (from_shape (e.Number n) _ (spelling.number n) (shape-Number n) (text-Number n) (λ a. number_fits n))
+by_case Expr-F.True = subst Back (sym e.rolls-True) (from_shape e.True _ (word m.True) shape-True text-True (λ a. true_fits))
+by_case Expr-F.False = subst Back (sym e.rolls-False) (from_shape e.False _ (word m.False) shape-False text-False (λ a. false_fits))
+by_case (Expr-F.Name text) = subst Back (sym (e.rolls-Name text)) (from_shape (e.Name text) _ (spelling.name text) (shape-Name text) (text-Name text) (λ a. name_fits text))
+by_case (Expr-F.Call text ys) =
+    let xs = map (λ (z : Known). z.0) ys in
+    subst Back (sym (e.rolls-Call text xs)) (from_shape (e.Call text xs) _ (spelled.function_call text xs) (shape-Call text xs) (text-Call text xs)
+      (λ a. let both = and_both (is_filled (map shape xs)) (list_all shape_allowed (map shape xs)) a in call_fits text xs (filled_map ys both.0) (each_known FitsExpr shape_allowed (λ x f b. f b) ys both.1)))
+by_case (Expr-F.Element text y) = subst Back (sym (e.rolls-Element text y.0)) (from_shape (e.Element text y.0) _ (spelled.element text y.0) (shape-Element text y.0) (text-Element text y.0) (λ a. element_fits text y.0 (y.1 a)))
+by_case (Expr-F.Convert to y) = subst Back (sym (e.rolls-Convert to y.0)) (from_shape (e.Convert to y.0) _ (spelled.convert to y.0) (shape-Convert to y.0) (text-Convert to y.0) (λ a. convert_fits to y.0 (y.1 a)))
+by_case (Expr-F.Throw n) = subst Back (sym (e.rolls-Throw n)) (from_shape (e.Throw n) _ (spelled.throw n) (shape-Throw n) (text-Throw n) (λ a. throw_fits n))
+by_case (Expr-F.Paren y) = subst Back (sym (e.rolls-Paren y.0)) (from_shape (e.Paren y.0) _ (spelled.enclosed m.OpenParen (spelled.expr y.0) m.CloseParen) (shape-Paren y.0) (text-Paren y.0) (λ a. paren_fits y.0 (y.1 a)))
+by_case (Expr-F.Minus y) =
+    subst Back (sym (e.rolls-Minus y.0)) (from_shape (e.Minus y.0) _ (spelled.next_expr m.MinusSign y.0) (shape-Minus y.0) (text-Minus y.0) (λ a. let at = at_level 0 y.0 a in minus_fits y.0 (y.1 at.1) at.0))
+by_case (Expr-F.Not y) =
+    subst Back (sym (e.rolls-Not y.0)) (from_shape (e.Not y.0) _ (spelled.next_expr m.Exclamation y.0) (shape-Not y.0) (text-Not y.0) (λ a. let at = at_level 0 y.0 a in not_fits y.0 (y.1 at.1) at.0))
+by_case (Expr-F.Chain y ys) =
+    let xs = map (λ (z : KnownPart). z.0) ys in
+    let n = chain_level (map link xs) in
+    subst Back (sym (e.rolls-Chain y.0 xs)) (from_shape (e.Chain y.0 xs) _ (spelled.chain y.0 xs) (shape-Chain y.0 xs) (text-Chain y.0 xs)
+      (λ a. let both = and_both (nat_lt (shape y.0).level n && (shape y.0).allowed) (list_all (is_link n) (map link xs)) a in chain_at y.0 y.1 n xs both.0 (each_part n ys both.1) refl))
+by_case (Expr-F.Compare o y z) =
+    subst Back (sym (e.rolls-Compare o y.0 z.0)) (from_shape (e.Compare o y.0 z.0) _ (spelled.compare o y.0 z.0) (shape-Compare o y.0 z.0) (text-Compare o y.0 z.0)
+      (λ a. let both = and_both (is_some (compare_mark o) && is_at 4 (shape y.0)) (is_at 4 (shape z.0)) a in
+        let two = and_both (is_some (compare_mark o)) (is_at 4 (shape y.0)) both.0 in
+        let first = at_level 4 y.0 two.1 in
+        let second = at_level 4 z.0 both.1 in
+        compare_fits o y.0 z.0 (comparison_of o two.0) (y.1 first.1) first.0 (z.1 second.1) second.0))
+by_case (Expr-F.All ys) =
+    let xs = map (λ (z : Known). z.0) ys in
+    subst Back (sym (e.rolls-All xs)) (from_shape (e.All xs) _ (separated m.AmpersandAmpersand spelled.expr xs) (shape-All xs) (text-All xs)
+      (λ a. let both = and_both (has_two (map shape xs)) (list_all (is_at 5) (map shape xs)) a in
+        all_fits xs (two_map ys both.0) (each_known (IsMember connectives.All) (is_at 5) (λ x f b. let at = at_level 5 x b in record { lower = at.0; fit = f at.1 }) ys both.1)))
+by_case (Expr-F.Any ys) =
+    let xs = map (λ (z : Known). z.0) ys in
+    subst Back (sym (e.rolls-Any xs)) (from_shape (e.Any xs) _ (separated m.BarBar spelled.expr xs) (shape-Any xs) (text-Any xs)
+      (λ a. let both = and_both (has_two (map shape xs)) (list_all (is_at 6) (map shape xs)) a in
+        any_fits xs (two_map ys both.0) (each_known (IsMember connectives.Any) (is_at 6) (λ x f b. let at = at_level 6 x b in record { lower = at.0; fit = f at.1 }) ys both.1)))
+by_case (Expr-F.If x y z) =
+    subst Back (sym (e.rolls-If x.0 y.0 z.0)) (from_shape (e.If x.0 y.0 z.0) _ (spelled.if_else x.0 y.0 z.0) (shape-If x.0 y.0 z.0) (text-If x.0 y.0 z.0)
+      (λ a. let both = and_both (is_at 7 (shape x.0) && is_at 7 (shape y.0)) (is_at 7 (shape z.0)) a in
+        let two = and_both (is_at 7 (shape x.0)) (is_at 7 (shape y.0)) both.0 in
+        let first = at_level 7 x.0 two.0 in
+        let second = at_level 7 y.0 two.1 in
+        let third = at_level 7 z.0 both.1 in
+        if_fits x.0 y.0 z.0 (x.1 first.1) first.0 (y.1 second.1) second.0 (z.1 third.1) third.0))
+
+-- an expression that the grammar has is read back at its level and at each higher one
+pub expr_fits : (x : Expr) → expr_allowed x ≡ true → FitsExpr x
+expr_fits = ind-Expr Back (λ x. Back x.operand) (λ x y is. subst (λ z. Back (roll-Expr z)) is (by_case y)) (λ x y is. subst (λ z. Back z.operand) is y.operand.1)
+
+-- the whole expression, where what follows goes on at no level
+pub expr_again : (room : ℕ) (x : Expr) → expr_allowed x ≡ true → (tail : List Sign) → 8 < reach (ahead tail) → Gets 1 (spelled.expr x tail) tail (x, tail) (expr room (spelled.expr x tail))
+expr_again room x a tail h = whole (expr_fits x a) room tail h
