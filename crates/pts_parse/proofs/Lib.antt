@@ -17,3 +17,4 @@ pub mod SumsAgain
 pub mod CallsAgain
 pub mod LevelsAgain
 pub mod ExprsAgain
+pub mod LoopsAgain
