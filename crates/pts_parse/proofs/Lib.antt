@@ -18,3 +18,5 @@ pub mod CallsAgain
 pub mod LevelsAgain
 pub mod ExprsAgain
 pub mod LoopsAgain
+pub mod BlocksAgain
+pub mod ScriptsAgain
