@@ -24,4 +24,11 @@ pub mod BlocksAlong
 pub mod ItemsAlong
 pub mod ScriptsAlong
 pub mod ScriptsAgain
+pub mod Again
+pub mod SumsAgain
+pub mod CallsAgain
+pub mod LevelsAgain
+pub mod ExprsAgain
+pub mod LoopsAgain
+pub mod BlocksAgain
 pub mod WholeScripts
