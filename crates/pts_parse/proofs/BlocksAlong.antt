@@ -1,5 +1,5 @@
 -- Task blocks: each is read along its rule, spelled by the signs that were read, and one that the grammar has.
-use Rattle.std.proofs.Common.{◌≡◌, ℕ, zero, suc, ◌-◌, ◌<◌, Bool, true, false, List, [], ◌∷◌, map, refl, sym, ◌∙◌, ap, arith}
+use Rattle.std.proofs.Common.{◌≡◌, ℕ, zero, suc, ◌-◌, ◌<◌, Bool, true, false, List, [], ◌∷◌, map, refl, ◌∙◌, ap, arith}
 use Rattle.std.specs.List.{list_all}
 use Rattle.std.specs.Cmp.Derive.{both_true}
 use Rattle.std.proofs.lemmas.Bool.{and_parts}
@@ -12,11 +12,10 @@ use Rattle.pts_tree.specs.Marks.{place}
 use Rattle.pts_tree.specs.Signs.{Sign, Mark, Number}
 use Rattle.pts_tree.specs.Spelling as spelling
 use Rattle.pts_tree.specs.Spelling.{Text, each}
-use Rattle.pts_tree.specs.Expressions.{expr_allowed}
 use Rattle.pts_tree.specs.Statements as stmts
 use Rattle.pts_tree.specs.Statements.{phrase_text, phrase_allowed, Task, task, task_text, task_allowed, run_allowed, tstmt, whole_block}
 use Rattle.pts_tree.specs.Grammar as g
-use Rattle.pts_tree.specs.Grammar.{Rule, One, The, Many, Maybe, rows}
+use Rattle.pts_tree.specs.Grammar.{Rule, The, Many, rows}
 use Rattle.pts_tree.proofs.Tasks.{task-Run, task-Wait, task-Throw, task-Assign, task-Call, task-Loop, task-Block, block-is}
 use Rattle.pts_parse.specs.Reading.{ahead, past, unexpected, each_of}
 use Rattle.pts_parse.specs.BlockReading.{Inside, throw_stmt, assign_cell, braced_tasks, block_of, rstmt_by, rstmt_of, tstmt_by, tstmt_of, task_of, sees_call, sees_task, task_list, inner_tasks, block}
@@ -25,7 +24,7 @@ use Rattle.pts_parse.proofs.Passes.{Along, step, steps, skip, done, last}
 use Rattle.pts_parse.proofs.Choices.{alone, choice, all_along, SeesRule}
 use Rattle.pts_parse.proofs.SingleSigns.{behind, expect_along, open_along, close_along, number_along}
 use Rattle.pts_parse.proofs.SumsAlong.{cell_along}
-use Rattle.pts_parse.proofs.CallsAlong.{Allowed, equal_read, call_along}
+use Rattle.pts_parse.proofs.CallsAlong.{Allowed, begun_at, equal_read, call_along}
 use Rattle.pts_parse.proofs.BodiesAlong.{value_along}
 use Rattle.pts_parse.proofs.LoopsAlong.{loop_along}
 
@@ -105,7 +104,7 @@ module _ (room : ℕ) (inside : Inside) (inside_along : ReadWithin room inside) 
   unfolding rows first place
   rstmt_by_along k.Name ts e = choice Rule.rstmt 1 e refl (assign_along room ts)
   rstmt_by_along (k.Mark m.Throw) ts e =
-      choice Rule.rstmt 0 e refl (behind m.Throw ts e refl refl (λ i. last (throw_along (past ts)) (λ x after q. record { text = i ∙ q.text; allowed = q.allowed })))
+      choice Rule.rstmt 0 e refl (behind m.Throw ts e refl refl (λ i. last (throw_along (past ts)) (λ x after q. begun_at i q)))
   rstmt_by_along (k.Mark m.ForLoop) ts e =
       choice Rule.rstmt 3 e refl (step (loop_along room ts e) (λ x q. done (equal_read (task-Loop x.0) (record { text = q.text; allowed = q.allowed }))))
   rstmt_by_along (k.Mark m.TaskBlock) ts e =

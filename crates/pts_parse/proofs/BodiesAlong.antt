@@ -1,5 +1,5 @@
 -- Statements of loops' bodies: each is read along its rule, spelled by the signs that were read, and one that the grammar has.
-use Rattle.std.proofs.Common.{◌≡◌, ℕ, zero, suc, ◌-◌, ◌<◌, Bool, true, false, is_some, List, [], ◌∷◌, map, Option, Some, None, refl, sym, ◌∙◌, ap, arith}
+use Rattle.std.proofs.Common.{◌≡◌, ℕ, zero, suc, ◌-◌, ◌<◌, Bool, is_some, List, [], ◌∷◌, map, Option, Some, refl, sym, ◌∙◌, ap, arith}
 use Rattle.std.specs.List.{list_all}
 use Rattle.std.proofs.lemmas.List.Folds.{list_all-map}
 use Rattle.std.specs.Cmp.Derive.{both_true}
@@ -8,7 +8,6 @@ use Rattle.pts_tree.specs.declared.mark.Mark as mark
 use Rattle.pts_tree.specs.declared.mark.Mark.TheVariants as m
 use Rattle.pts_tree.specs.declared.sign.SignKind.{SignKind}
 use Rattle.pts_tree.specs.declared.sign.SignKind.TheVariants as k
-use Rattle.pts_tree.specs.declared.expr.Expr.{Expr}
 use Rattle.pts_tree.specs.declared.expr.Place.{Place}
 use Rattle.pts_tree.specs.declared.loops.BodyStmt.{BodyStmt}
 use Rattle.pts_tree.specs.Marks.{place}
@@ -19,7 +18,7 @@ use Rattle.pts_tree.specs.Expressions as exprs
 use Rattle.pts_tree.specs.Statements as stmts
 use Rattle.pts_tree.specs.Statements.{phrase, phrase_text, phrase_allowed, upd_mark, bstmt, bstmt_allowed}
 use Rattle.pts_tree.specs.Grammar as g
-use Rattle.pts_tree.specs.Grammar.{Rule, Row, One, The, Many, Maybe, rows, same}
+use Rattle.pts_tree.specs.Grammar.{Rule, The, Many, Maybe, rows, same}
 use Rattle.pts_tree.proofs.Lists.{each_map}
 use Rattle.pts_tree.proofs.Phrases.{phrases, phrase-Assign, phrase-Let, phrase-Combine, phrase-VecOff, phrase-Ordered, phrase-If}
 use Rattle.pts_parse.specs.Brackets.{room_behind}
@@ -30,8 +29,7 @@ use Rattle.pts_parse.proofs.Tables.{first}
 use Rattle.pts_parse.proofs.Passes.{Along, step, steps, skip, done, last, test_along}
 use Rattle.pts_parse.proofs.Choices.{alone, choice, no_choice, all_along, SeesRule, sees_one, with_part, without_part}
 use Rattle.pts_parse.proofs.SingleSigns.{mark_seen, behind, word_along, expect_along, open_along, close_along, name_along}
-use Rattle.pts_parse.proofs.CallsAlong.{Allowed, equal_read}
-use Rattle.pts_parse.proofs.OperandsAlong.{Enclosed}
+use Rattle.pts_parse.proofs.CallsAlong.{Allowed, begun_at, equal_read}
 use Rattle.pts_parse.proofs.ExprsAlong.{expr_along, bracketed_along}
 
 -- ---- what is read
@@ -75,7 +73,8 @@ value_along n room b ts =
     done (record { text = i ∙ ap (λ us. Mark n ∷ us) (q.text ∙ ap (exprs.expr x.0) t); allowed = q.allowed }))))
 
 assign_along : (room : ℕ) (text : List ℕ) (ts : List Sign)
-    → Along (g.mark m.OpenBracket ∷ The Rule.expr ∷ g.mark m.CloseBracket ∷ g.mark m.Equal ∷ The Rule.expr ∷ g.mark m.Semicolon ∷ []) room room (ReadStmt (Name text ∷ ts)) ts (assign room text ts)
+    → Along (g.mark m.OpenBracket ∷ The Rule.expr ∷ g.mark m.CloseBracket ∷ g.mark m.Equal ∷ The Rule.expr ∷ g.mark m.Semicolon ∷ []) room room
+      (ReadStmt (Name text ∷ ts)) ts (assign room text ts)
 unfolding assign bracketed
 assign_along room text ts =
     steps (bracketed_along room ts) (λ i p.
@@ -91,7 +90,8 @@ unfolding combine
 combine_along room text ts =
     steps (value_along m.TildeEqual room refl ts) (λ x q. done (equal_read (phrase-Combine text x.0) (record { text = ap (λ us. Name text ∷ us) q.text; allowed = q.allowed })))
 
-name_stmt_by_along : (x : SignKind) (room : ℕ) (text : List ℕ) (ts : List Sign) → ahead ts ≡ x → Along (The Rule.name_stmt ∷ []) room room (ReadStmt (Name text ∷ ts)) ts (name_stmt_by x room text ts)
+name_stmt_by_along : (x : SignKind) (room : ℕ) (text : List ℕ) (ts : List Sign) → ahead ts ≡ x
+    → Along (The Rule.name_stmt ∷ []) room room (ReadStmt (Name text ∷ ts)) ts (name_stmt_by x room text ts)
 unfolding rows first place
 name_stmt_by_along (k.Mark m.OpenBracket) room text ts e = choice Rule.name_stmt 0 e refl (assign_along room text ts)
 name_stmt_by_along (k.Mark m.TildeEqual) room text ts e = choice Rule.name_stmt 1 e refl (combine_along room text ts)
@@ -131,7 +131,8 @@ unfolding upd
 upd_along ts = upd_by_along (ahead ts) ts refl
 
 ordered_along : (room : ℕ) (ts : List Sign)
-    → Along (g.name ∷ g.mark m.OpenBracket ∷ The Rule.expr ∷ g.mark m.CloseBracket ∷ The Rule.upd ∷ The Rule.expr ∷ g.mark m.Semicolon ∷ []) room room (ReadStmt (Mark m.Ordered ∷ ts)) ts (ordered room ts)
+    → Along (g.name ∷ g.mark m.OpenBracket ∷ The Rule.expr ∷ g.mark m.CloseBracket ∷ The Rule.upd ∷ The Rule.expr ∷ g.mark m.Semicolon ∷ []) room room
+      (ReadStmt (Mark m.Ordered ∷ ts)) ts (ordered room ts)
 unfolding ordered
 ordered_along room ts =
     steps (place_along room ts) (λ at p.
@@ -195,15 +196,15 @@ module _ (room : ℕ) (inside : Parser (List BodyStmt)) (inside_along : ReadWith
   bstmt_by_along : (x : SignKind) (ts : List Sign) → ahead ts ≡ x → Along (The Rule.bstmt ∷ []) room room (ReadStmt ts) ts (bstmt_by x room inside ts)
   unfolding rows first place
   bstmt_by_along k.Name ts e =
-      choice Rule.bstmt 0 e refl (step (name_along ts) (λ n p. last (name_stmt_along room n.0 n.1) (λ x after q. record { text = p ∙ q.text; allowed = q.allowed })))
+      choice Rule.bstmt 0 e refl (step (name_along ts) (λ n p. last (name_stmt_along room n.0 n.1) (λ x after q. begun_at p q)))
   bstmt_by_along (k.Mark m.Let) ts e =
-      choice Rule.bstmt 1 e refl (behind m.Let ts e refl refl (λ i. last (let_name_along room (past ts)) (λ x after q. record { text = i ∙ q.text; allowed = q.allowed })))
+      choice Rule.bstmt 1 e refl (behind m.Let ts e refl refl (λ i. last (let_name_along room (past ts)) (λ x after q. begun_at i q)))
   bstmt_by_along (k.Mark m.If) ts e =
-      choice Rule.bstmt 2 e refl (behind m.If ts e refl refl (λ i. last (if_stmt_along (past ts)) (λ x after q. record { text = i ∙ q.text; allowed = q.allowed })))
+      choice Rule.bstmt 2 e refl (behind m.If ts e refl refl (λ i. last (if_stmt_along (past ts)) (λ x after q. begun_at i q)))
   bstmt_by_along (k.Mark m.VecOff) ts e =
-      choice Rule.bstmt 3 e refl (behind m.VecOff ts e refl refl (λ i. last (vec_off_along (past ts)) (λ x after q. record { text = i ∙ q.text; allowed = q.allowed })))
+      choice Rule.bstmt 3 e refl (behind m.VecOff ts e refl refl (λ i. last (vec_off_along (past ts)) (λ x after q. begun_at i q)))
   bstmt_by_along (k.Mark m.Ordered) ts e =
-      choice Rule.bstmt 4 e refl (behind m.Ordered ts e refl refl (λ i. last (ordered_along room (past ts)) (λ x after q. record { text = i ∙ q.text; allowed = q.allowed })))
+      choice Rule.bstmt 4 e refl (behind m.Ordered ts e refl refl (λ i. last (ordered_along room (past ts)) (λ x after q. begun_at i q)))
   bstmt_by_along _ ts e = no_choice Rule.bstmt e refl
 
 sees_bstmt_first : SeesRule Rule.bstmt sees_bstmt

@@ -17,7 +17,7 @@ use Rattle.pts_tree.specs.Marks.{place}
 use Rattle.pts_tree.specs.Signs.{Sign, Mark}
 use Rattle.pts_tree.specs.Spelling.{Text, each, word, optional}
 use Rattle.pts_tree.specs.Expressions.{chain_mark, operator_level, Shape, Link, shape, link, shape_step, link_text, is_link, chain_allowed}
-use Rattle.pts_tree.specs.Grammar.{Rule, Row, The, Many, rows}
+use Rattle.pts_tree.specs.Grammar.{Rule, The, Many, rows}
 use Rattle.pts_tree.proofs.Shapes.{shape-Chain, link-is}
 use Rattle.pts_parse.specs.declared.expressions.Level.{Level}
 use Rattle.pts_parse.specs.declared.expressions.Level.TheVariants as levels

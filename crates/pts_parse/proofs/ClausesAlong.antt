@@ -1,5 +1,5 @@
 -- Reductions and inductions of loops: each is read along its rule, spelled by the signs that were read, and one that the grammar has.
-use Rattle.std.proofs.Common.{◌≡◌, ℕ, inl, inr, Bool, true, false, ◌||◌, List, [], ◌∷◌, ◌++◌, Option, Some, None, refl, sym, ◌∙◌, ap, arith}
+use Rattle.std.proofs.Common.{◌≡◌, ℕ, inl, inr, Bool, true, false, List, [], ◌∷◌, refl, sym, ◌∙◌, ap, arith}
 use Rattle.std.specs.List.{list_all}
 use Rattle.std.specs.Cmp.Derive.{both_true}
 use Rattle.pts_types.specs.declared.value.Kind.{Kind}
@@ -10,7 +10,6 @@ use Rattle.pts_tree.specs.declared.sum.Atom.{Atom}
 use Rattle.pts_tree.specs.declared.sum.Atom.TheVariants as atoms
 use Rattle.pts_tree.specs.declared.sum.Sum.{Sum}
 use Rattle.pts_tree.specs.declared.sum.Val.TheVariants as vals
-use Rattle.pts_tree.specs.declared.loops.Clause.{Clause}
 use Rattle.pts_tree.specs.declared.loops.Initial.{Initial}
 use Rattle.pts_tree.specs.declared.loops.Initial.TheVariants as initials
 use Rattle.pts_tree.specs.Marks.{place}
@@ -20,7 +19,7 @@ use Rattle.pts_tree.specs.Spelling.{Text, each, optional}
 use Rattle.pts_tree.specs.Statements as stmts
 use Rattle.pts_tree.specs.Statements.{clause_allowed}
 use Rattle.pts_tree.specs.Grammar as g
-use Rattle.pts_tree.specs.Grammar.{Rule, Row, One, The, Many, Maybe, rows, same, has, Matches, ends, opens, without, with_it, no_more, one_more}
+use Rattle.pts_tree.specs.Grammar.{Rule, Row, One, The, Many, Maybe, rows, same, Matches, ends, opens, without, with_it, no_more, one_more}
 use Rattle.pts_parse.specs.Reading.{ahead, past}
 use Rattle.pts_parse.specs.SumReading.{sum_behind, typed}
 use Rattle.pts_parse.specs.LoopReading.{identity, view, reduce_clause, initial_sum, initial_behind, initial_by, initial, induct_head, induct_clause, clause_by, clause, sees_clause, clauses_of}
@@ -30,7 +29,7 @@ use Rattle.pts_parse.proofs.Passes.{Alone, Stops, chosen, left_out, put_in, no_f
 use Rattle.pts_parse.proofs.Choices.{Leads, along_leads, alone, choice, choice_by, no_choice, all_along, SeesRule, sees_one, with_part, without_part}
 use Rattle.pts_parse.proofs.SingleSigns.{mark_seen, behind, word_along, expect_along, name_along, number_along}
 use Rattle.pts_parse.proofs.SumsAlong.{Spelled, atom_along, sum_parts_along, sum_along, val_along, index_along, cell_along, kind_along}
-use Rattle.pts_parse.proofs.CallsAlong.{Allowed, op_along}
+use Rattle.pts_parse.proofs.CallsAlong.{Allowed, begun_at, op_along}
 
 -- ---- parts of clauses
 
@@ -141,7 +140,8 @@ initial_along room ts = initial_by_along (ahead ts) room ts refl
 -- ---- clauses
 
 reduce_clause_along : (room : ℕ) (ts : List Sign)
-    → Along (The Rule.cell ∷ The Rule.op ∷ Maybe Rule.identity_part ∷ g.mark m.As ∷ g.name ∷ []) room room (Allowed stmts.clause clause_allowed (Mark m.Reduce ∷ ts)) ts (reduce_clause room ts)
+    → Along (The Rule.cell ∷ The Rule.op ∷ Maybe Rule.identity_part ∷ g.mark m.As ∷ g.name ∷ []) room room
+      (Allowed stmts.clause clause_allowed (Mark m.Reduce ∷ ts)) ts (reduce_clause room ts)
 unfolding reduce_clause
 reduce_clause_along room ts =
     step (cell_along room ts) (λ c p.
@@ -151,7 +151,8 @@ reduce_clause_along room ts =
     done (record { text = ap (λ us. Mark m.Reduce ∷ us) (p ∙ ap (spelling.cell c.0) (q.text ∙ ap (spelling.op o.0) (s ∙ ap (optional stmts.identity_part x.0) t))); allowed = q.allowed })))))
 
 induct_clause_along : (room : ℕ) (ts : List Sign)
-    → Along (g.name ∷ g.mark m.Colon ∷ The Rule.kind ∷ g.mark m.Equal ∷ The Rule.initial ∷ Maybe Rule.step_part ∷ []) room room (Allowed stmts.clause clause_allowed (Mark m.Induct ∷ ts)) ts (induct_clause room ts)
+    → Along (g.name ∷ g.mark m.Colon ∷ The Rule.kind ∷ g.mark m.Equal ∷ The Rule.initial ∷ Maybe Rule.step_part ∷ []) room room
+      (Allowed stmts.clause clause_allowed (Mark m.Induct ∷ ts)) ts (induct_clause room ts)
 unfolding induct_clause
 induct_clause_along room ts =
     steps (induct_head_along ts) (λ h p.
@@ -162,9 +163,9 @@ induct_clause_along room ts =
 clause_by_along : (x : SignKind) (room : ℕ) (ts : List Sign) → ahead ts ≡ x → Along (The Rule.clause ∷ []) room room (Allowed stmts.clause clause_allowed ts) ts (clause_by x room ts)
 unfolding rows first place
 clause_by_along (k.Mark m.Reduce) room ts e =
-    choice Rule.clause 0 e refl (behind m.Reduce ts e refl refl (λ i. last (reduce_clause_along room (past ts)) (λ x after q. record { text = i ∙ q.text; allowed = q.allowed })))
+    choice Rule.clause 0 e refl (behind m.Reduce ts e refl refl (λ i. last (reduce_clause_along room (past ts)) (λ x after q. begun_at i q)))
 clause_by_along (k.Mark m.Induct) room ts e =
-    choice Rule.clause 1 e refl (behind m.Induct ts e refl refl (λ i. last (induct_clause_along room (past ts)) (λ x after q. record { text = i ∙ q.text; allowed = q.allowed })))
+    choice Rule.clause 1 e refl (behind m.Induct ts e refl refl (λ i. last (induct_clause_along room (past ts)) (λ x after q. begun_at i q)))
 clause_by_along _ room ts e = no_choice Rule.clause e refl
 
 sees_clause_first : SeesRule Rule.clause sees_clause

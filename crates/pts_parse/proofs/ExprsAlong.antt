@@ -1,5 +1,5 @@
 -- Expressions: each is read along its rule, spelled by the signs that were read, and one that the grammar has.
-use Rattle.std.proofs.Common.{◌≡◌, ℕ, zero, suc, ◌-◌, ◌<◌, Bool, true, List, [], ◌∷◌, map, Some, refl, sym, subst, ◌∙◌, ap, arith}
+use Rattle.std.proofs.Common.{◌≡◌, ℕ, zero, suc, ◌-◌, Bool, List, [], ◌∷◌, map, Some, refl, sym, ◌∙◌, ap, arith}
 use Rattle.std.specs.List.{list_all}
 use Rattle.std.specs.Cmp.Derive.{both_true}
 use Rattle.pts_types.specs.declared.operation.ScalarOp.{ScalarOp}
@@ -15,7 +15,7 @@ use Rattle.pts_tree.specs.Signs.{Sign, Mark}
 use Rattle.pts_tree.specs.Spelling.{Text, each, optional, word}
 use Rattle.pts_tree.specs.Expressions.{compare_mark, shape, shape_text, is_at, expr, expr_allowed}
 use Rattle.pts_tree.specs.Grammar as g
-use Rattle.pts_tree.specs.Grammar.{Rule, Row, The, Many, Maybe, rows, same}
+use Rattle.pts_tree.specs.Grammar.{Rule, The, Many, Maybe, rows, same}
 use Rattle.pts_tree.proofs.Shapes.{shape-Compare, shape-All, shape-Any, shape-If}
 use Rattle.pts_parse.specs.declared.expressions.Level.TheVariants as levels
 use Rattle.pts_parse.specs.declared.expressions.Connective.{Connective}
@@ -45,7 +45,8 @@ comparing op n c before mid there after x y p i q =
     })
 
 compared_by_along : {room : ℕ} (other : Parser Expr) → ((ts : List Sign) → Along (The Rule.bit ∷ []) room room (ReadAt 4 ts) ts (other ts))
-    → (s : SignKind) (before ts : List Sign) → ahead ts ≡ s → (x : Expr) → ReadAt 4 before x ts → Along (Maybe Rule.cmp_part ∷ []) room room (ReadAt 5 before) ts (compared_by (comparison s) x other ts)
+    → (s : SignKind) (before ts : List Sign) → ahead ts ≡ s → (x : Expr) → ReadAt 4 before x ts
+    → Along (Maybe Rule.cmp_part ∷ []) room room (ReadAt 5 before) ts (compared_by (comparison s) x other ts)
 unfolding rows first place comparison
 compared_by_along other a (k.Mark m.EqualEqual) before ts e x p =
     with_part Rule.cmp_part (rw e refl) (alone Rule.cmp_part refl (behind m.EqualEqual ts e refl refl (λ i. step (a (past ts)) (λ y q.
@@ -192,5 +193,6 @@ inner_along (suc room) = one_inside room (reading.expr room) (λ us. expr_at roo
 
 -- "[" expr "]"
 pub bracketed_along : (room : ℕ) (ts : List Sign)
-    → Along (g.mark m.OpenBracket ∷ The Rule.expr ∷ g.mark m.CloseBracket ∷ []) room room (Enclosed m.OpenBracket m.CloseBracket ts) ts (enclosed m.OpenBracket m.CloseBracket room (inner room) ts)
+    → Along (g.mark m.OpenBracket ∷ The Rule.expr ∷ g.mark m.CloseBracket ∷ []) room room (Enclosed m.OpenBracket m.CloseBracket ts) ts
+      (enclosed m.OpenBracket m.CloseBracket room (inner room) ts)
 bracketed_along room ts = enclosed_along room (inner room) (inner_along room) m.OpenBracket m.CloseBracket (λ left. refl) (λ left. refl) ts

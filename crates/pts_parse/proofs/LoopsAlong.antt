@@ -1,12 +1,10 @@
 -- Loops: each is read along its rule, spelled by the signs that were read, and one that the grammar has.
-use Rattle.std.proofs.Common.{◌≡◌, ℕ, Bool, true, List, [], ◌∷◌, Option, refl, ◌∙◌, ap}
-use Rattle.std.specs.List.{list_all}
+use Rattle.std.proofs.Common.{◌≡◌, ℕ, List, [], ◌∷◌, Option, refl, ◌∙◌, ap}
 use Rattle.std.specs.Cmp.Derive.{both_true}
 use Rattle.pts_types.specs.declared.operation.Policy.{Policy}
 use Rattle.pts_tree.specs.declared.mark.Mark.TheVariants as m
 use Rattle.pts_tree.specs.declared.sign.SignKind.TheVariants as k
 use Rattle.pts_tree.specs.declared.sum.Sum.{Sum}
-use Rattle.pts_tree.specs.declared.loops.Loop.{Loop}
 use Rattle.pts_tree.specs.Signs.{Sign, Mark, Name}
 use Rattle.pts_tree.specs.Spelling as spelling
 use Rattle.pts_tree.specs.Spelling.{Text, each, optional}
@@ -21,7 +19,7 @@ use Rattle.pts_parse.proofs.Passes.{Along, step, steps, skip, done, last}
 use Rattle.pts_parse.proofs.Choices.{alone}
 use Rattle.pts_parse.proofs.SingleSigns.{behind, expect_along, name_along}
 use Rattle.pts_parse.proofs.SumsAlong.{Spelled, sum_along}
-use Rattle.pts_parse.proofs.CallsAlong.{Allowed, policy_along}
+use Rattle.pts_parse.proofs.CallsAlong.{Allowed, begun_at, policy_along}
 use Rattle.pts_parse.proofs.ClausesAlong.{step_along, clauses_along}
 use Rattle.pts_parse.proofs.BodiesAlong.{body_along}
 
@@ -70,4 +68,4 @@ behind_word room ts =
 pub loop_along : (room : ℕ) (ts : List Sign) → ahead ts ≡ k.Mark m.ForLoop → Along (The Rule.loop ∷ []) room room (Allowed stmts.loop loop_allowed ts) ts (loop_behind room (past ts))
 unfolding rows place
 loop_along room ts e =
-    alone Rule.loop refl (behind m.ForLoop ts e refl refl (λ i. last (behind_word room (past ts)) (λ x after q. record { text = i ∙ q.text; allowed = q.allowed })))
+    alone Rule.loop refl (behind m.ForLoop ts e refl refl (λ i. last (behind_word room (past ts)) (λ x after q. begun_at i q)))

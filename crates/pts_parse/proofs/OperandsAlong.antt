@@ -1,5 +1,5 @@
 -- The innermost levels of expressions: each operand is read along its rule, where what stands between brackets is.
-use Rattle.std.proofs.Common.{◌≡◌, ℕ, zero, suc, ◌-◌, ◌<◌, ◌≤◌, Bool, true, false, ◌&&◌, nat_le, List, [], ◌∷◌, map, Some, None, refl, sym, subst, ◌∙◌, ap, arith}
+use Rattle.std.proofs.Common.{◌≡◌, ℕ, suc, ◌-◌, ◌<◌, ◌≤◌, Bool, true, ◌&&◌, List, [], ◌∷◌, map, Some, refl, sym, subst, ◌∙◌, ap, arith}
 use Rattle.std.specs.List.{list_all}
 use Rattle.std.specs.Cmp.Derive.{both_true}
 use Rattle.std.proofs.lemmas.Bool.{le-leb}
@@ -8,25 +8,24 @@ use Rattle.pts_tree.specs.declared.mark.Mark.TheVariants as m
 use Rattle.pts_tree.specs.declared.sign.SignKind.{SignKind}
 use Rattle.pts_tree.specs.declared.sign.SignKind.TheVariants as k
 use Rattle.pts_tree.specs.declared.expr.Expr.{Expr}
-use Rattle.pts_tree.specs.declared.expr.Expr.TheOpen.{Expr-F}
 use Rattle.pts_tree.specs.declared.expr.Expr.TheVariants as e
 use Rattle.pts_tree.specs.Marks.{place}
 use Rattle.pts_tree.specs.Signs.{Sign, Mark, Name, Number}
 use Rattle.pts_tree.specs.Spelling as spelling
 use Rattle.pts_tree.specs.Spelling.{Text, each, separated, is_filled}
 use Rattle.pts_tree.specs.Expressions as exprs
-use Rattle.pts_tree.specs.Expressions.{Shape, Link, shape, shape_step, shape_text, shape_allowed, is_at}
+use Rattle.pts_tree.specs.Expressions.{Shape, shape, shape_text, shape_allowed, is_at}
 use Rattle.pts_tree.specs.Grammar as g
-use Rattle.pts_tree.specs.Grammar.{Rule, Part, Row, One, The, Many, Maybe, rows, same, has}
+use Rattle.pts_tree.specs.Grammar.{Rule, One, The, Many, Maybe, rows}
 use Rattle.pts_tree.proofs.Shapes.{shape-Number, shape-True, shape-False, shape-Name, shape-Call, shape-Element, shape-Convert, shape-Throw, shape-Paren, shape-Minus, shape-Not}
 use Rattle.pts_parse.specs.Brackets.{room_behind, less}
 use Rattle.pts_parse.specs.Reading.{Parser, ahead, past}
 use Rattle.pts_parse.specs.ExprReading.{enclosed, next_argument, sees_comma, next_arguments, arguments, function_call, element, name_rest_by, name_rest, convert, paren, prim_by, prim, una_by, una}
 use Rattle.pts_parse.proofs.Tables.{first}
-use Rattle.pts_parse.proofs.Passes.{Along, step, steps, skip, done, last, made}
-use Rattle.pts_parse.proofs.Choices.{alone, choice, no_choice, all_along, SeesRule, sees_one, with_part, without_part}
+use Rattle.pts_parse.proofs.Passes.{Along, step, steps, skip, done, last}
+use Rattle.pts_parse.proofs.Choices.{alone, choice, no_choice, all_along, sees_one, with_part, without_part}
 use Rattle.pts_parse.proofs.SingleSigns.{behind, word_along, expect_along, open_along, close_along, name_along, number_along}
-use Rattle.pts_parse.proofs.SumsAlong.{Spelled, kind_along}
+use Rattle.pts_parse.proofs.SumsAlong.{kind_along}
 use Rattle.pts_parse.proofs.CallsAlong.{Allowed}
 
 -- ---- what is read
@@ -163,7 +162,8 @@ module _ (room : ℕ) (inner : Parser Expr) (inner_along : ReadInside room inner
   prim_by_along k.One ts e = choice Rule.prim 0 e refl (step (number_along ts) (λ n q. done (shaped (shape-Number n.0) (record { text = q; within = omega arith; allowed = refl }))))
   prim_by_along (k.Mark m.True) ts e = choice Rule.prim 1 e refl (word_along m.True ts e refl refl (λ i. shaped shape-True (record { text = i; within = omega arith; allowed = refl })))
   prim_by_along (k.Mark m.False) ts e = choice Rule.prim 2 e refl (word_along m.False ts e refl refl (λ i. shaped shape-False (record { text = i; within = omega arith; allowed = refl })))
-  prim_by_along k.Name ts e = choice Rule.prim 3 e refl (step (name_along ts) (λ n p. last (name_rest_along n.0 n.1) (λ x after q. record { text = p ∙ q.text; within = q.within; allowed = q.allowed })))
+  prim_by_along k.Name ts e =
+      choice Rule.prim 3 e refl (step (name_along ts) (λ n p. last (name_rest_along n.0 n.1) (λ x after q. record { text = p ∙ q.text; within = q.within; allowed = q.allowed })))
   prim_by_along (k.Mark m.I64) ts e = choice Rule.prim 4 e refl (convert_along ts)
   prim_by_along (k.Mark m.U64) ts e = choice Rule.prim 4 e refl (convert_along ts)
   prim_by_along (k.Mark m.Bool) ts e = choice Rule.prim 4 e refl (convert_along ts)

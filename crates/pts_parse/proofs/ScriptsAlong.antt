@@ -1,16 +1,15 @@
 -- Scripts: what is read of all signs is the script that they spell, or the fault is right.
-use Rattle.std.proofs.Common.{◌≡◌, ℕ, Bool, true, false, if◌then◌else◌, List, [], ◌∷◌, length, Result, Ok, Err, refl, sym, subst, ◌∙◌, ap}
+use Rattle.std.proofs.Common.{◌≡◌, ℕ, Bool, true, false, if◌then◌else◌, List, [], ◌∷◌, Result, Ok, Err, refl, sym, subst, ◌∙◌, ap}
 use Rattle.std.specs.List.{list_all}
 use Rattle.pts_tree.specs.declared.mark.Mark.TheVariants as m
 use Rattle.pts_tree.specs.declared.sign.SignKind.TheVariants as k
 use Rattle.pts_tree.specs.declared.script.Item.{Item}
-use Rattle.pts_tree.specs.declared.script.Script.{Script}
 use Rattle.pts_tree.specs.Signs.{Sign, Mark, Number}
 use Rattle.pts_tree.specs.Spelling.{Text, each}
 use Rattle.pts_tree.specs.Scripts as scripts
 use Rattle.pts_tree.specs.Scripts.{item_allowed, Spells}
 use Rattle.pts_tree.specs.Grammar as g
-use Rattle.pts_tree.specs.Grammar.{Rule, Row, The, Many, rows, same}
+use Rattle.pts_tree.specs.Grammar.{Rule, Row, The, rows, same}
 use Rattle.pts_parse.specs.declared.reader.Stop.{Stop}
 use Rattle.pts_parse.specs.Reading.{Read, and_then, ahead, past, unexpected, expect}
 use Rattle.pts_parse.specs.ScriptReading.{item_list, version, header, finish, script}
