@@ -146,7 +146,7 @@ many_again {sees = sees} {spell = spell} (one {x = x} {xs = xs} r rs) e tail h l
     absurd (let f = filled sees (spell x (each spell xs tail)) e (r.seen (each spell xs tail)) in omega arith)
 many_again {A = A} {sees = sees} {Ends = Ends} {part = part} {spell = spell} (one {x = x} {xs = xs} r rs) e tail h l (suc n) less =
     at_all (in_case _ (sees (ahead (spell x (each spell xs tail)))) (r.seen (each spell xs tail))
-      (next_down _ (r.back (each spell xs tail) (follows rs)) (λ d. next _ (many_again rs e tail h l n (omega arith)) done)))
+    (next_down _ (r.back (each spell xs tail) (follows rs)) (λ d. next _ (many_again rs e tail h l n (omega arith)) done)))
   where
     follows : {ys : List A} → Each (Repeats sees Ends part spell) ys → Ends (each spell ys tail)
     follows none = l

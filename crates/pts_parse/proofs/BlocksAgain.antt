@@ -57,7 +57,7 @@ tasks_again : (in_run : Bool) {xs : List TaskStmt} → Each (FitsIn in_run) xs �
     → Gets 0 (each tstmt xs (Mark m.CloseBrace ∷ ts)) (Mark m.CloseBrace ∷ ts) (xs, Mark m.CloseBrace ∷ ts) (task_list room in_run (each tstmt xs (Mark m.CloseBrace ∷ ts)))
 tasks_again in_run {xs = xs} fs room ts =
     subst (λ o. Gets 0 (each tstmt xs (Mark m.CloseBrace ∷ ts)) (Mark m.CloseBrace ∷ ts) (xs, Mark m.CloseBrace ∷ ts) o) (sym (task_list_is room in_run (each tstmt xs (Mark m.CloseBrace ∷ ts))))
-      (each_again Anything (each_to (λ x f. record { seen = f.seen; ends = λ us. tt; back = λ us l. f.back room us }) fs) (no_task in_run).0 (Mark m.CloseBrace ∷ ts) (no_task in_run).1 tt)
+    (each_again Anything (each_to (λ x f. record { seen = f.seen; ends = λ us. tt; back = λ us l. f.back room us }) fs) (no_task in_run).0 (Mark m.CloseBrace ∷ ts) (no_task in_run).1 tt)
 
 -- inside of one more brace
 inside_brace : (in_run : Bool) (xs : List TaskStmt) (before after : List Sign) (room less : ℕ) → room ≡ suc less → Gets 0 before after (xs, after) (task_list less in_run before)
@@ -152,8 +152,9 @@ run_call_again room x a ts = subst (λ o. Gets 1 (spelling.call x ts) ts (t.Call
 call_fits : (in_run : Bool) (x : Call) → call_allowed x ≡ true → FitsTask in_run (spelling.call x) (t.Call x)
 call_fits true x a = record { seen = λ ts. call_seen true x.form; back = λ room ts. run_call_again room x a ts }
 call_fits false x a = record {
-    seen = λ ts. call_seen false x.form;
-    back = λ room ts. subst (λ o. Gets 1 (spelling.call x ts) ts (t.Call x, ts) o) (sym (block_call x.form room (inner_tasks room) (past (spelling.call x ts)))) (run_call_again room x a ts) }
+  seen = λ ts. call_seen false x.form;
+  back = λ room ts. subst (λ o. Gets 1 (spelling.call x ts) ts (t.Call x, ts) o) (sym (block_call x.form room (inner_tasks room) (past (spelling.call x ts)))) (run_call_again room x a ts);
+}
 
 loop_fits : (in_run : Bool) (x : Loop) → loop_allowed x ≡ true → FitsTask in_run (stated.loop x) (t.Loop x)
 unfolding sees_task tstmt_of rstmt_of

@@ -74,7 +74,7 @@ value_along n room b ts =
 
 assign_along : (room : ℕ) (text : List ℕ) (ts : List Sign)
     → Along (g.mark m.OpenBracket ∷ The Rule.expr ∷ g.mark m.CloseBracket ∷ g.mark m.Equal ∷ The Rule.expr ∷ g.mark m.Semicolon ∷ []) room room
-      (ReadStmt (Name text ∷ ts)) ts (assign room text ts)
+    (ReadStmt (Name text ∷ ts)) ts (assign room text ts)
 unfolding assign bracketed
 assign_along room text ts =
     steps (bracketed_along room ts) (λ i p.
@@ -132,7 +132,7 @@ upd_along ts = upd_by_along (ahead ts) ts refl
 
 ordered_along : (room : ℕ) (ts : List Sign)
     → Along (g.name ∷ g.mark m.OpenBracket ∷ The Rule.expr ∷ g.mark m.CloseBracket ∷ The Rule.upd ∷ The Rule.expr ∷ g.mark m.Semicolon ∷ []) room room
-      (ReadStmt (Mark m.Ordered ∷ ts)) ts (ordered room ts)
+    (ReadStmt (Mark m.Ordered ∷ ts)) ts (ordered room ts)
 unfolding ordered
 ordered_along room ts =
     steps (place_along room ts) (λ at p.

@@ -103,7 +103,7 @@ start_again x o a tail = next _ (init_again x _ (op_begins (λ q. goes_on q) ref
 
 sources_again : (room : ℕ) (p : Policy) (x : Range) (y : Option Range) (tail : List Sign) → same (k.Mark m.Comma) (ahead tail) ≡ false
     → Gets 1 (Mark (spelling.policy p) ∷ spelling.range x (optional spelling.second_range y tail)) tail (((p, x), y), tail)
-        (sources room (Mark (spelling.policy p) ∷ spelling.range x (optional spelling.second_range y tail)))
+    (sources room (Mark (spelling.policy p) ∷ spelling.range x (optional spelling.second_range y tail)))
 unfolding sources
 sources_again room p x y tail e = next _ (head_again room p x _) (next _ (second_again room y tail e) done)
 
@@ -155,7 +155,7 @@ transform_reduce_again room p x y v o a f c tail =
 
 scan_ranges_again : (room : ℕ) (p : Policy) (x to : Range) (tail : List Sign)
     → Gets 1 (Mark (spelling.policy p) ∷ spelling.range x (spelling.target_range to tail)) tail (((p, x), to), tail)
-        (scan_ranges room (Mark (spelling.policy p) ∷ spelling.range x (spelling.target_range to tail)))
+    (scan_ranges room (Mark (spelling.policy p) ∷ spelling.range x (spelling.target_range to tail)))
 unfolding scan_ranges
 scan_ranges_again room p x to tail = next _ (head_again room p x _) (next _ (target_again room to tail) done)
 

@@ -1,5 +1,5 @@
 -- Calls of algorithms: each is read along its rule, spelled by the signs that were read, and one that the grammar has.
-use Rattle.std.proofs.Common.{◌≡◌, ℕ, Bool, true, false, ◌&&◌, is_some, is_none, List, [], ◌∷◌, ◌++◌, Option, Some, None, refl, sym, subst, ◌∙◌, ap}
+use Rattle.std.proofs.Common.{◌≡◌, ℕ, Bool, true, ◌&&◌, is_some, is_none, List, [], ◌∷◌, ◌++◌, Option, Some, None, refl, sym, subst, ◌∙◌, ap}
 use Rattle.std.specs.Cmp.Derive.{both_true}
 use Rattle.std.proofs.lemmas.Bool.{and_parts}
 use Rattle.pts_types.specs.declared.operation.Policy.{Policy}
@@ -17,9 +17,9 @@ use Rattle.pts_tree.specs.declared.call.Call.{Call}
 use Rattle.pts_tree.specs.Marks.{place}
 use Rattle.pts_tree.specs.Signs.{Sign, Mark, Name}
 use Rattle.pts_tree.specs.Spelling as spelling
-use Rattle.pts_tree.specs.Spelling.{Text, optional, op_allowed, has_parts, call_allowed}
+use Rattle.pts_tree.specs.Spelling.{Text, optional, op_allowed, call_allowed}
 use Rattle.pts_tree.specs.Grammar as g
-use Rattle.pts_tree.specs.Grammar.{Rule, Part, Row, One, The, Many, Maybe, rows, same, has}
+use Rattle.pts_tree.specs.Grammar.{Rule, Row, One, The, Maybe, rows, same, has}
 use Rattle.pts_parse.specs.Brackets.{room_behind}
 use Rattle.pts_parse.specs.Reading.{Read, ahead, past}
 use Rattle.pts_parse.specs.CallReading.{policy_by, policy, op_by, op, second, target, init, optional_init, store, head, start, sources, named_end, stored_end, for_each, transform, search, reduce, transform_reduce, scan_init, scan_function, scan_ranges, scan_end, scan, call_by, call}
@@ -37,6 +37,10 @@ pub record Allowed {A : Type 0} (spell : A → Text) (test : A → Bool) (before
 -- what was read is equal to this part
 pub equal_read : {A : Type 0} {spell : A → Text} {test : A → Bool} {before after : List Sign} {x y : A} → x ≡ y → Allowed spell test before y after → Allowed spell test before x after
 equal_read {spell = spell} {test = test} {before = before} {after = after} e p = subst (λ z. Allowed spell test before z after) (sym e) p
+
+-- what was read from these signs on was read from equal ones
+pub begun_at : {A : Type 0} {spell : A → Text} {test : A → Bool} {before mid after : List Sign} {x : A} → before ≡ mid → Allowed spell test mid x after → Allowed spell test before x after
+begun_at i p = record { text = i ∙ p.text; allowed = p.allowed }
 
 -- ---- parts of calls
 
@@ -252,7 +256,8 @@ abbrev scanning : CallForm → (Policy × Range) × Range → Option Val → Op 
 scanning form h from o = record { form = form; policy = h.0.0; first = h.0.1; second = None; target = Some h.1; init = from; op = Some o.0; function = o.1; store = None }
 
 scan_along : {room : ℕ} (form : CallForm) (front function : Row) (begun : Option Val → Bool) (named : Option (List ℕ) → Bool)
-    → ((h : (Policy × Range) × Range) (from : Option Val) (o : Op × Option (List ℕ)) → begun from ≡ true → op_allowed o.0 ≡ true → named o.1 ≡ true → call_allowed (scanning form h from o) ≡ true)
+    → ((h : (Policy × Range) × Range) (from : Option Val) (o : Op × Option (List ℕ)) → begun from ≡ true
+    → op_allowed o.0 ≡ true → named o.1 ≡ true → call_allowed (scanning form h from o) ≡ true)
     → ((ts : List Sign) → Along front room room (Allowed (optional spelling.init_part) begun ts) ts (scan_init form ts))
     → ((ts : List Sign) → Along function room room (Allowed (optional spelling.name) named ts) ts (scan_function form ts))
     → (ts : List Sign) → Along (The Rule.policy ∷ The Rule.range ∷ g.mark m.Arrow ∷ The Rule.range ∷ (front ++ The Rule.op ∷ (function ++ g.mark m.Semicolon ∷ []))) room room
@@ -284,7 +289,7 @@ no_name_along ts = done (record { text = refl; allowed = refl })
 worded : {room : ℕ} {ks : List SignKind} {row : Row} {o : Read Call} (form : CallForm) (ts : List Sign)
     → ahead ts ≡ k.Mark (spelling.form form) → has ks (k.Mark (spelling.form form)) ≡ true → room_behind (k.Mark (spelling.form form)) room ≡ Some room
     → Along row room room (Called form (past ts)) (past ts) o → Along (One ks ∷ row) room room (Allowed spelling.call call_allowed ts) ts o
-worded form ts e h b a = behind (spelling.form form) ts e h b (λ i. last a (λ x after q. record { text = i ∙ q.text; allowed = q.allowed }))
+worded form ts e h b a = behind (spelling.form form) ts e h b (λ i. last a (λ x after q. begun_at i q))
 
 call_by_along : (x : SignKind) (room : ℕ) (ts : List Sign) → ahead ts ≡ x → Along (The Rule.call ∷ []) room room (Allowed spelling.call call_allowed ts) ts (call_by x room ts)
 unfolding rows first place
@@ -296,16 +301,20 @@ call_by_along (k.Mark m.Reduce) room ts e = choice Rule.call 3 e refl (worded fo
 call_by_along (k.Mark m.TransformReduce) room ts e = choice Rule.call 4 e refl (worded forms.TransformReduce ts e refl refl (transform_reduce_along room (past ts)))
 call_by_along (k.Mark m.InclusiveScan) room ts e =
     choice Rule.call 5 e refl (worded forms.InclusiveScan ts e refl refl (
-    scan_along forms.InclusiveScan (Maybe Rule.init_part ∷ []) [] any_start is_none (λ h from o p q r. rw (q, r) refl) (λ us. may_begin_along us) (λ us. no_name_along us) (past ts)))
+    scan_along forms.InclusiveScan (Maybe Rule.init_part ∷ []) [] any_start is_none (λ h from o p q r. rw (q, r) refl)
+    (λ us. may_begin_along us) (λ us. no_name_along us) (past ts)))
 call_by_along (k.Mark m.ExclusiveScan) room ts e =
     choice Rule.call 6 e refl (worded forms.ExclusiveScan ts e refl refl (
-    scan_along forms.ExclusiveScan (The Rule.init_part ∷ []) [] is_some is_none (λ h from o p q r. rw (p, q, r) refl) (λ us. init_there_along us) (λ us. no_name_along us) (past ts)))
+    scan_along forms.ExclusiveScan (The Rule.init_part ∷ []) [] is_some is_none (λ h from o p q r. rw (p, q, r) refl)
+    (λ us. init_there_along us) (λ us. no_name_along us) (past ts)))
 call_by_along (k.Mark m.TransformInclusiveScan) room ts e =
     choice Rule.call 7 e refl (worded forms.TransformInclusiveScan ts e refl refl (
-    scan_along forms.TransformInclusiveScan (Maybe Rule.init_part ∷ []) (g.name ∷ []) any_start is_some (λ h from o p q r. rw (q, r) refl) (λ us. may_begin_along us) (λ us. name_there_along us) (past ts)))
+    scan_along forms.TransformInclusiveScan (Maybe Rule.init_part ∷ []) (g.name ∷ []) any_start is_some (λ h from o p q r. rw (q, r) refl)
+    (λ us. may_begin_along us) (λ us. name_there_along us) (past ts)))
 call_by_along (k.Mark m.TransformExclusiveScan) room ts e =
     choice Rule.call 8 e refl (worded forms.TransformExclusiveScan ts e refl refl (
-    scan_along forms.TransformExclusiveScan (The Rule.init_part ∷ []) (g.name ∷ []) is_some is_some (λ h from o p q r. rw (p, q, r) refl) (λ us. init_there_along us) (λ us. name_there_along us) (past ts)))
+    scan_along forms.TransformExclusiveScan (The Rule.init_part ∷ []) (g.name ∷ []) is_some is_some (λ h from o p q r. rw (p, q, r) refl)
+    (λ us. init_there_along us) (λ us. name_there_along us) (past ts)))
 call_by_along _ room ts e = no_choice Rule.call e refl
 
 pub call_along : (room : ℕ) (ts : List Sign) → Along (The Rule.call ∷ []) room room (Allowed spelling.call call_allowed ts) ts (call room ts)

@@ -141,7 +141,7 @@ initial_along room ts = initial_by_along (ahead ts) room ts refl
 
 reduce_clause_along : (room : ℕ) (ts : List Sign)
     → Along (The Rule.cell ∷ The Rule.op ∷ Maybe Rule.identity_part ∷ g.mark m.As ∷ g.name ∷ []) room room
-      (Allowed stmts.clause clause_allowed (Mark m.Reduce ∷ ts)) ts (reduce_clause room ts)
+    (Allowed stmts.clause clause_allowed (Mark m.Reduce ∷ ts)) ts (reduce_clause room ts)
 unfolding reduce_clause
 reduce_clause_along room ts =
     step (cell_along room ts) (λ c p.
@@ -152,7 +152,7 @@ reduce_clause_along room ts =
 
 induct_clause_along : (room : ℕ) (ts : List Sign)
     → Along (g.name ∷ g.mark m.Colon ∷ The Rule.kind ∷ g.mark m.Equal ∷ The Rule.initial ∷ Maybe Rule.step_part ∷ []) room room
-      (Allowed stmts.clause clause_allowed (Mark m.Induct ∷ ts)) ts (induct_clause room ts)
+    (Allowed stmts.clause clause_allowed (Mark m.Induct ∷ ts)) ts (induct_clause room ts)
 unfolding induct_clause
 induct_clause_along room ts =
     steps (induct_head_along ts) (λ h p.

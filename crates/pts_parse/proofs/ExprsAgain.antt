@@ -100,11 +100,11 @@ argument_repeats room less i x f = record { seen = λ ts. refl; ends = λ ts. om
 
 arguments_again : (room less : ℕ) → room ≡ suc less → (x : Expr) (xs : List Expr) → FitsExpr x → Each FitsExpr xs → (tail : List Sign)
     → Gets 1 (separated m.Comma spelled.expr (x ∷ xs) (Mark m.CloseParen ∷ tail)) (Mark m.CloseParen ∷ tail) (x ∷ xs, Mark m.CloseParen ∷ tail)
-        (arguments (inner room) (separated m.Comma spelled.expr (x ∷ xs) (Mark m.CloseParen ∷ tail)))
+    (arguments (inner room) (separated m.Comma spelled.expr (x ∷ xs) (Mark m.CloseParen ∷ tail)))
 unfolding arguments next_arguments sees_comma place
 arguments_again room less i x xs f fs tail =
     next _ (inside room less i _ (whole f less _ (follows fs)))
-      (next _ (each_again (λ ts. 8 < reach (ahead ts)) (each_to (λ y g. argument_repeats room less i y g) fs) refl (Mark m.CloseParen ∷ tail) refl (omega arith)) done)
+    (next _ (each_again (λ ts. 8 < reach (ahead ts)) (each_to (λ y g. argument_repeats room less i y g) fs) refl (Mark m.CloseParen ∷ tail) refl (omega arith)) done)
   where
     follows : {ys : List Expr} → Each FitsExpr ys → 8 < reach (ahead (each (λ y rest. Mark m.Comma ∷ spelled.expr y rest) ys (Mark m.CloseParen ∷ tail)))
     follows none = omega arith
@@ -181,7 +181,7 @@ part_again : (level : Level) (room : ℕ) (x : ChainPart) (sign : mark.Mark) →
 unfolding chain_part
 part_again level room x sign i tail g =
     subst (λ o. Gets 1 (Mark sign ∷ spelled.expr x.operand tail) tail (x, tail) (chain_part_by o (operand level room (inner room)) (Mark sign ∷ spelled.expr x.operand tail))) (sym i)
-      (behind_sign (next _ g done))
+    (behind_sign (next _ g done))
 
 part_repeats : (level : Level) (room : ℕ) (x : ChainPart) → IsPart (height level) x
     → Repeats (sees_operator level) (λ ts. height level ≤ reach (ahead ts)) (chain_part level (operand level room (inner room))) spelled.chain_part x
@@ -190,10 +190,11 @@ part_repeats level room x p = by (operator_of level x.op p.same_level)
   where
     by : Operator level x.op → Repeats (sees_operator level) (λ ts. height level ≤ reach (ahead ts)) (chain_part level (operand level room (inner room))) spelled.chain_part x
     by o = record {
-        seen = λ ts. subst (λ q. sees_operator level (ahead (optional word q (spelled.expr x.operand ts))) ≡ true) (sym o.spells) (ap is_some o.seen);
-        ends = λ ts. subst (λ q. height level ≤ reach (ahead (optional word q (spelled.expr x.operand ts)))) (sym o.spells) (omega (arith, o.reaches));
-        back = λ ts l. subst (λ q. Gets 1 (optional word q (spelled.expr x.operand ts)) ts (x, ts) (chain_part level (operand level room (inner room)) (optional word q (spelled.expr x.operand ts)))) (sym o.spells)
-          (part_again level room x o.sign o.seen ts (operand_again level x.operand p.fit p.lower room ts l)) }
+      seen = λ ts. subst (λ q. sees_operator level (ahead (optional word q (spelled.expr x.operand ts))) ≡ true) (sym o.spells) (ap is_some o.seen);
+      ends = λ ts. subst (λ q. height level ≤ reach (ahead (optional word q (spelled.expr x.operand ts)))) (sym o.spells) (omega (arith, o.reaches));
+      back = λ ts l. subst (λ q. Gets 1 (optional word q (spelled.expr x.operand ts)) ts (x, ts) (chain_part level (operand level room (inner room)) (optional word q (spelled.expr x.operand ts)))) (sym o.spells)
+          (part_again level room x o.sign o.seen ts (operand_again level x.operand p.fit p.lower room ts l));
+    }
 
 -- the end begins no part
 no_part : (level : Level) → sees_operator level k.End ≡ false
@@ -209,7 +210,7 @@ chain_again : (level : Level) (x : Expr) (y : ChainPart) (ys : List ChainPart) �
 unfolding chain_of chain_parts
 chain_again level x y ys f l ps room tail h =
     next _ (operand_again level x f l room (each spelled.chain_part (y ∷ ys) tail) (follows parts))
-      (next _ (each_again (λ ts. height level ≤ reach (ahead ts)) parts (no_part level) tail (no_operator level (ahead tail) h) (omega arith)) done)
+    (next _ (each_again (λ ts. height level ≤ reach (ahead ts)) parts (no_part level) tail (no_operator level (ahead tail) h) (omega arith)) done)
   where
     parts : Each (Repeats (sees_operator level) (λ ts. height level ≤ reach (ahead ts)) (chain_part level (operand level room (inner room))) spelled.chain_part) (y ∷ ys)
     parts = each_to (λ z p. part_repeats level room z p) ps
@@ -261,14 +262,14 @@ compared_again : (o : ScalarOp) (x y : Expr) (sign : mark.Mark) → comparison (
 unfolding compared
 compared_again o x y sign i r f l g n room tail h =
     next _ (f.back 4 l (omega arith) room (Mark sign ∷ spelled.expr y tail) r)
-      (subst (λ q. Gets 1 (Mark sign ∷ spelled.expr y tail) tail (e.Compare o x y, tail) (compared_by q x (chain levels.Bitwise room (inner room)) (Mark sign ∷ spelled.expr y tail))) (sym i)
-        (behind_sign (next _ (g.back 4 n (omega arith) room tail h) done)))
+    (subst (λ q. Gets 1 (Mark sign ∷ spelled.expr y tail) tail (e.Compare o x y, tail) (compared_by q x (chain levels.Bitwise room (inner room)) (Mark sign ∷ spelled.expr y tail))) (sym i)
+    (behind_sign (next _ (g.back 4 n (omega arith) room tail h) done)))
 
 compare_fits : (o : ScalarOp) (x y : Expr) → Comparison o → FitsExpr x → (shape x).level ≤ 4 → FitsExpr y → (shape y).level ≤ 4 → Fits (spelled.compare o x y) 5 (e.Compare o x y)
 compare_fits o x y c f l g n = fits (spelled.compare o x y) 5 (e.Compare o x y) (omega arith)
     (λ tail. omega (arith, f.begins (optional word (compare_mark o) (spelled.expr y tail))))
     (λ room tail h. subst (λ q. Gets 1 (spelled.expr x (optional word q (spelled.expr y tail))) tail (e.Compare o x y, tail) (compared room (inner room) (spelled.expr x (optional word q (spelled.expr y tail))))) (sym c.spells)
-      (compared_again o x y c.sign c.seen c.reaches f l g n room tail (omega arith)))
+    (compared_again o x y c.sign c.seen c.reaches f l g n room tail (omega arith)))
 
 -- ---- members
 
@@ -290,9 +291,10 @@ member_repeats : (which : Connective) (room : ℕ) (x : Expr) → IsMember which
     → Repeats (sees_connective which) (λ ts. member_level which < reach (ahead ts)) (next_member which (member which room (inner room))) (λ y rest. Mark (connective_mark which) ∷ spelled.expr y rest) x
 unfolding sees_connective next_member
 member_repeats which room x f = record {
-    seen = λ ts. same_mark (connective_mark which);
-    ends = λ ts. connective_reaches which;
-    back = λ ts l. next _ (expect_again (connective_mark which) _) (member_again which x f room ts l) }
+  seen = λ ts. same_mark (connective_mark which);
+  ends = λ ts. connective_reaches which;
+  back = λ ts l. next _ (expect_again (connective_mark which) _) (member_again which x f room ts l);
+}
 
 no_member : (which : Connective) → sees_connective which k.End ≡ false
 unfolding sees_connective
@@ -309,11 +311,11 @@ answer x ts = Ok (x, ts)
 
 members_again : (which : Connective) (x y : Expr) (ys : List Expr) → IsMember which x → Each (IsMember which) (y ∷ ys) → (room : ℕ) (tail : List Sign) → suc (member_level which) < reach (ahead tail)
     → Gets 1 (separated (connective_mark which) spelled.expr (x ∷ y ∷ ys) tail) tail (joined_of which (x ∷ y ∷ ys), tail)
-        (members which room (inner room) (separated (connective_mark which) spelled.expr (x ∷ y ∷ ys) tail))
+    (members which room (inner room) (separated (connective_mark which) spelled.expr (x ∷ y ∷ ys) tail))
 unfolding members_of next_members joined_of
 members_again which x y ys f fs room tail h =
     next _ (member_again which x f room _ (connective_reaches which))
-      (next _ (each_again (λ ts. member_level which < reach (ahead ts)) (each_to (λ z g. member_repeats which room z g) fs) (no_member which) tail (no_connective which (ahead tail) h) (omega arith)) (by which))
+    (next _ (each_again (λ ts. member_level which < reach (ahead ts)) (each_to (λ z g. member_repeats which room z g) fs) (no_member which) tail (no_connective which (ahead tail) h) (omega arith)) (by which))
   where
     by : (which : Connective) → Gets 0 tail tail (joined_of which (x ∷ y ∷ ys), tail) (answer (joined which x (y ∷ ys)) tail)
     by connectives.All = done
@@ -346,9 +348,9 @@ if_fits : (x y z : Expr) → FitsExpr x → (shape x).level ≤ 7 → FitsExpr y
 unfolding expr_of if_else
 if_fits x y z f l g n h o = fits (spelled.if_else x y z) 8 (e.If x y z) (omega arith) (λ tail. omega arith)
     (λ room tail r. in_case _ (same (k.Mark m.If) (k.Mark m.If)) (same_mark m.If) (
-      next _ (branch_again m.If x f l room _ (omega arith)) (
-      next _ (branch_again m.Then y g n room _ (omega arith)) (
-      next _ (branch_again m.Else z h o room tail (omega arith)) done))))
+    next _ (branch_again m.If x f l room _ (omega arith)) (
+    next _ (branch_again m.Then y g n room _ (omega arith)) (
+    next _ (branch_again m.Else z h o room tail (omega arith)) done))))
 
 -- ---- all expressions
 
@@ -397,7 +399,7 @@ chain_at x f n (y ∷ ys) a (one p ps) i =
     let level = level_of y.op (omega (arith, p.same_level)) in
     let same = level.1 ∙ p.same_level in
     subst (λ h. Fits (spelled.chain x (y ∷ ys)) h (e.Chain x (y ∷ ys))) same
-      (chain_fits level.0 x y ys (f both.1) (omega arith) (subst (λ h. Each (IsPart h) (y ∷ ys)) (sym same) (one p ps)))
+    (chain_fits level.0 x y ys (f both.1) (omega arith) (subst (λ h. Each (IsPart h) (y ∷ ys)) (sym same) (one p ps)))
 
 filled_map : (zs : List Known) → is_filled (map shape (map (λ z. z.0) zs)) ≡ true → is_filled (map (λ (z : Known). z.0) zs) ≡ true
 filled_map [] a = a
@@ -415,7 +417,7 @@ by_case (Expr-F.Name text) = subst Back (sym (e.rolls-Name text)) (from_shape (e
 by_case (Expr-F.Call text ys) =
     let xs = map (λ (z : Known). z.0) ys in
     subst Back (sym (e.rolls-Call text xs)) (from_shape (e.Call text xs) _ (spelled.function_call text xs) (shape-Call text xs) (text-Call text xs)
-      (λ a. let both = and_both (is_filled (map shape xs)) (list_all shape_allowed (map shape xs)) a in call_fits text xs (filled_map ys both.0) (each_known FitsExpr shape_allowed (λ x f b. f b) ys both.1)))
+    (λ a. let both = and_both (is_filled (map shape xs)) (list_all shape_allowed (map shape xs)) a in call_fits text xs (filled_map ys both.0) (each_known FitsExpr shape_allowed (λ x f b. f b) ys both.1)))
 by_case (Expr-F.Element text y) = subst Back (sym (e.rolls-Element text y.0)) (from_shape (e.Element text y.0) _ (spelled.element text y.0) (shape-Element text y.0) (text-Element text y.0) (λ a. element_fits text y.0 (y.1 a)))
 by_case (Expr-F.Convert to y) = subst Back (sym (e.rolls-Convert to y.0)) (from_shape (e.Convert to y.0) _ (spelled.convert to y.0) (shape-Convert to y.0) (text-Convert to y.0) (λ a. convert_fits to y.0 (y.1 a)))
 by_case (Expr-F.Throw n) = subst Back (sym (e.rolls-Throw n)) (from_shape (e.Throw n) _ (spelled.throw n) (shape-Throw n) (text-Throw n) (λ a. throw_fits n))
@@ -428,32 +430,32 @@ by_case (Expr-F.Chain y ys) =
     let xs = map (λ (z : KnownPart). z.0) ys in
     let n = chain_level (map link xs) in
     subst Back (sym (e.rolls-Chain y.0 xs)) (from_shape (e.Chain y.0 xs) _ (spelled.chain y.0 xs) (shape-Chain y.0 xs) (text-Chain y.0 xs)
-      (λ a. let both = and_both (nat_lt (shape y.0).level n && (shape y.0).allowed) (list_all (is_link n) (map link xs)) a in chain_at y.0 y.1 n xs both.0 (each_part n ys both.1) refl))
+    (λ a. let both = and_both (nat_lt (shape y.0).level n && (shape y.0).allowed) (list_all (is_link n) (map link xs)) a in chain_at y.0 y.1 n xs both.0 (each_part n ys both.1) refl))
 by_case (Expr-F.Compare o y z) =
     subst Back (sym (e.rolls-Compare o y.0 z.0)) (from_shape (e.Compare o y.0 z.0) _ (spelled.compare o y.0 z.0) (shape-Compare o y.0 z.0) (text-Compare o y.0 z.0)
-      (λ a. let both = and_both (is_some (compare_mark o) && is_at 4 (shape y.0)) (is_at 4 (shape z.0)) a in
-        let two = and_both (is_some (compare_mark o)) (is_at 4 (shape y.0)) both.0 in
-        let first = at_level 4 y.0 two.1 in
-        let second = at_level 4 z.0 both.1 in
-        compare_fits o y.0 z.0 (comparison_of o two.0) (y.1 first.1) first.0 (z.1 second.1) second.0))
+    (λ a. let both = and_both (is_some (compare_mark o) && is_at 4 (shape y.0)) (is_at 4 (shape z.0)) a in
+    let two = and_both (is_some (compare_mark o)) (is_at 4 (shape y.0)) both.0 in
+    let first = at_level 4 y.0 two.1 in
+    let second = at_level 4 z.0 both.1 in
+    compare_fits o y.0 z.0 (comparison_of o two.0) (y.1 first.1) first.0 (z.1 second.1) second.0))
 by_case (Expr-F.All ys) =
     let xs = map (λ (z : Known). z.0) ys in
     subst Back (sym (e.rolls-All xs)) (from_shape (e.All xs) _ (separated m.AmpersandAmpersand spelled.expr xs) (shape-All xs) (text-All xs)
-      (λ a. let both = and_both (has_two (map shape xs)) (list_all (is_at 5) (map shape xs)) a in
-        all_fits xs (two_map ys both.0) (each_known (IsMember connectives.All) (is_at 5) (λ x f b. let at = at_level 5 x b in record { lower = at.0; fit = f at.1 }) ys both.1)))
+    (λ a. let both = and_both (has_two (map shape xs)) (list_all (is_at 5) (map shape xs)) a in
+    all_fits xs (two_map ys both.0) (each_known (IsMember connectives.All) (is_at 5) (λ x f b. let at = at_level 5 x b in record { lower = at.0; fit = f at.1 }) ys both.1)))
 by_case (Expr-F.Any ys) =
     let xs = map (λ (z : Known). z.0) ys in
     subst Back (sym (e.rolls-Any xs)) (from_shape (e.Any xs) _ (separated m.BarBar spelled.expr xs) (shape-Any xs) (text-Any xs)
-      (λ a. let both = and_both (has_two (map shape xs)) (list_all (is_at 6) (map shape xs)) a in
-        any_fits xs (two_map ys both.0) (each_known (IsMember connectives.Any) (is_at 6) (λ x f b. let at = at_level 6 x b in record { lower = at.0; fit = f at.1 }) ys both.1)))
+    (λ a. let both = and_both (has_two (map shape xs)) (list_all (is_at 6) (map shape xs)) a in
+    any_fits xs (two_map ys both.0) (each_known (IsMember connectives.Any) (is_at 6) (λ x f b. let at = at_level 6 x b in record { lower = at.0; fit = f at.1 }) ys both.1)))
 by_case (Expr-F.If x y z) =
     subst Back (sym (e.rolls-If x.0 y.0 z.0)) (from_shape (e.If x.0 y.0 z.0) _ (spelled.if_else x.0 y.0 z.0) (shape-If x.0 y.0 z.0) (text-If x.0 y.0 z.0)
-      (λ a. let both = and_both (is_at 7 (shape x.0) && is_at 7 (shape y.0)) (is_at 7 (shape z.0)) a in
-        let two = and_both (is_at 7 (shape x.0)) (is_at 7 (shape y.0)) both.0 in
-        let first = at_level 7 x.0 two.0 in
-        let second = at_level 7 y.0 two.1 in
-        let third = at_level 7 z.0 both.1 in
-        if_fits x.0 y.0 z.0 (x.1 first.1) first.0 (y.1 second.1) second.0 (z.1 third.1) third.0))
+    (λ a. let both = and_both (is_at 7 (shape x.0) && is_at 7 (shape y.0)) (is_at 7 (shape z.0)) a in
+    let two = and_both (is_at 7 (shape x.0)) (is_at 7 (shape y.0)) both.0 in
+    let first = at_level 7 x.0 two.0 in
+    let second = at_level 7 y.0 two.1 in
+    let third = at_level 7 z.0 both.1 in
+    if_fits x.0 y.0 z.0 (x.1 first.1) first.0 (y.1 second.1) second.0 (z.1 third.1) third.0))
 
 -- an expression that the grammar has is read back at its level and at each higher one
 pub expr_fits : (x : Expr) → expr_allowed x ≡ true → FitsExpr x

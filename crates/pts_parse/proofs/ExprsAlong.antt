@@ -194,5 +194,5 @@ inner_along (suc room) = one_inside room (reading.expr room) (λ us. expr_at roo
 -- "[" expr "]"
 pub bracketed_along : (room : ℕ) (ts : List Sign)
     → Along (g.mark m.OpenBracket ∷ The Rule.expr ∷ g.mark m.CloseBracket ∷ []) room room (Enclosed m.OpenBracket m.CloseBracket ts) ts
-      (enclosed m.OpenBracket m.CloseBracket room (inner room) ts)
+    (enclosed m.OpenBracket m.CloseBracket room (inner room) ts)
 bracketed_along room ts = enclosed_along room (inner room) (inner_along room) m.OpenBracket m.CloseBracket (λ left. refl) (λ left. refl) ts

@@ -1,5 +1,5 @@
 -- Declarations and items: each is read along its rule, spelled by the signs that were read, and one that the grammar has.
-use Rattle.std.proofs.Common.{◌≡◌, ℕ, Bool, true, List, [], ◌∷◌, refl, sym, ◌∙◌, ap}
+use Rattle.std.proofs.Common.{◌≡◌, ℕ, Bool, List, [], ◌∷◌, refl, ◌∙◌, ap}
 use Rattle.std.specs.List.{list_all}
 use Rattle.std.specs.Cmp.Derive.{both_true}
 use Rattle.pts_types.specs.declared.value.Kind.{Kind}
@@ -15,11 +15,10 @@ use Rattle.pts_tree.specs.Marks.{place}
 use Rattle.pts_tree.specs.Signs.{Sign, Mark, Name}
 use Rattle.pts_tree.specs.Spelling as spelling
 use Rattle.pts_tree.specs.Spelling.{Text, each, is_filled}
-use Rattle.pts_tree.specs.Statements as stmts
 use Rattle.pts_tree.specs.Scripts as scripts
 use Rattle.pts_tree.specs.Scripts.{start_allowed, item_allowed}
 use Rattle.pts_tree.specs.Grammar as g
-use Rattle.pts_tree.specs.Grammar.{Rule, Row, One, The, Many, Maybe, rows}
+use Rattle.pts_tree.specs.Grammar.{Rule, The, Many, rows}
 use Rattle.pts_parse.specs.Reading.{ahead, past}
 use Rattle.pts_parse.specs.ExprReading.{sees_comma}
 use Rattle.pts_parse.specs.ScriptReading.{const_decl, next_val, next_vals, vals, iota, start_by, start, start_part, array_decl, param, next_param, next_params, params, signature, result_kind, function_decl, print, item_by, item, sees_item, item_list}
@@ -29,7 +28,7 @@ use Rattle.pts_parse.proofs.Passes.{Along, step, steps, skip, done, last}
 use Rattle.pts_parse.proofs.Choices.{alone, choice, no_choice, all_along, SeesRule, sees_one}
 use Rattle.pts_parse.proofs.SingleSigns.{behind, expect_along, open_along, close_along, name_along}
 use Rattle.pts_parse.proofs.SumsAlong.{Spelled, sum_along, val_along, index_along, kind_along}
-use Rattle.pts_parse.proofs.CallsAlong.{Allowed, call_along}
+use Rattle.pts_parse.proofs.CallsAlong.{Allowed, begun_at, call_along}
 use Rattle.pts_parse.proofs.ClausesAlong.{typed_text, typed_along}
 use Rattle.pts_parse.proofs.BodiesAlong.{value_along}
 use Rattle.pts_parse.proofs.LoopsAlong.{loop_along}
@@ -97,7 +96,8 @@ abbrev index_text : Sum → Text
 index_text x tail = Mark m.OpenBracket ∷ spelling.sum x (Mark m.CloseBracket ∷ tail)
 
 array_along : (room : ℕ) (ts : List Sign)
-    → Along (g.name ∷ g.mark m.Colon ∷ The Rule.kind ∷ g.mark m.OpenBracket ∷ The Rule.sum ∷ g.mark m.CloseBracket ∷ g.mark m.Equal ∷ The Rule.start ∷ g.mark m.Semicolon ∷ []) room room
+    → Along (g.name ∷ g.mark m.Colon ∷ The Rule.kind ∷ g.mark m.OpenBracket ∷ The Rule.sum ∷ g.mark m.CloseBracket
+    ∷ g.mark m.Equal ∷ The Rule.start ∷ g.mark m.Semicolon ∷ []) room room
     (Declared m.Array ts) ts (array_decl room ts)
 unfolding array_decl
 array_along room ts =
@@ -152,7 +152,8 @@ unfolding result_kind
 result_along ts = skip (expect_along m.Arrow ts refl) (λ r i. last (kind_along r) (λ x after q. i ∙ ap (λ us. Mark m.Arrow ∷ us) q))
 
 function_along : (room : ℕ) (ts : List Sign)
-    → Along (g.name ∷ g.mark m.OpenParen ∷ The Rule.param ∷ Many Rule.next_param ∷ g.mark m.CloseParen ∷ g.mark m.Arrow ∷ The Rule.kind ∷ g.mark m.Equal ∷ The Rule.expr ∷ g.mark m.Semicolon ∷ []) room room
+    → Along (g.name ∷ g.mark m.OpenParen ∷ The Rule.param ∷ Many Rule.next_param ∷ g.mark m.CloseParen
+    ∷ g.mark m.Arrow ∷ The Rule.kind ∷ g.mark m.Equal ∷ The Rule.expr ∷ g.mark m.Semicolon ∷ []) room room
     (Declared m.Function ts) ts (function_decl room ts)
 unfolding function_decl
 function_along room ts =
@@ -173,17 +174,17 @@ print_along ts =
 item_by_along : (x : SignKind) (room : ℕ) (ts : List Sign) → ahead ts ≡ x → Along (The Rule.item ∷ []) room room (Allowed scripts.item item_allowed ts) ts (item_by x room ts)
 unfolding rows first place
 item_by_along (k.Mark m.Const) room ts e =
-    choice Rule.item 0 e refl (choice Rule.decl 0 e refl (behind m.Const ts e refl refl (λ i. last (const_along (past ts)) (λ x after q. record { text = i ∙ q.text; allowed = q.allowed }))))
+    choice Rule.item 0 e refl (choice Rule.decl 0 e refl (behind m.Const ts e refl refl (λ i. last (const_along (past ts)) (λ x after q. begun_at i q))))
 item_by_along (k.Mark m.Array) room ts e =
-    choice Rule.item 0 e refl (choice Rule.decl 1 e refl (behind m.Array ts e refl refl (λ i. last (array_along room (past ts)) (λ x after q. record { text = i ∙ q.text; allowed = q.allowed }))))
+    choice Rule.item 0 e refl (choice Rule.decl 1 e refl (behind m.Array ts e refl refl (λ i. last (array_along room (past ts)) (λ x after q. begun_at i q))))
 item_by_along (k.Mark m.Function) room ts e =
-    choice Rule.item 0 e refl (choice Rule.decl 2 e refl (behind m.Function ts e refl refl (λ i. last (function_along room (past ts)) (λ x after q. record { text = i ∙ q.text; allowed = q.allowed }))))
+    choice Rule.item 0 e refl (choice Rule.decl 2 e refl (behind m.Function ts e refl refl (λ i. last (function_along room (past ts)) (λ x after q. begun_at i q))))
 item_by_along (k.Mark m.ForLoop) room ts e =
     choice Rule.item 1 e refl (choice Rule.stmt 1 e refl (step (loop_along room ts e) (λ x q. done (record { text = q.text; allowed = q.allowed }))))
 item_by_along (k.Mark m.TaskBlock) room ts e =
     choice Rule.item 1 e refl (choice Rule.stmt 2 e refl (step (block_along room ts e) (λ x q. done (record { text = q.text; allowed = q.allowed }))))
 item_by_along (k.Mark m.Print) room ts e =
-    choice Rule.item 1 e refl (choice Rule.stmt 3 e refl (behind m.Print ts e refl refl (λ i. last (print_along (past ts)) (λ x after q. record { text = i ∙ q.text; allowed = q.allowed }))))
+    choice Rule.item 1 e refl (choice Rule.stmt 3 e refl (behind m.Print ts e refl refl (λ i. last (print_along (past ts)) (λ x after q. begun_at i q))))
 item_by_along _ room ts e =
     choice Rule.item 1 e refl (choice Rule.stmt 0 e refl (step (call_along room ts) (λ x q. done (record { text = q.text; allowed = q.allowed }))))
 

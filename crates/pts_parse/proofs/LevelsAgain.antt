@@ -169,10 +169,11 @@ pub record Fits (text : Text) (level : ℕ) (x : Expr) : Type 0 where
 pub fits : (text : Text) (level : ℕ) (x : Expr) → level ≤ 8 → ((tail : List Sign) → opens (ahead (text tail)) ≤ level)
     → ((room : ℕ) (tail : List Sign) → level < reach (ahead tail) → Gets 1 (text tail) tail (x, tail) (reader level room (text tail))) → Fits text level x
 fits text level x w b own = record {
-    within = w;
-    begins = b;
-    back = λ l h. le_ind (λ n. n ≤ 8 → (room : ℕ) (tail : List Sign) → n < reach (ahead tail) → Gets 1 (text tail) tail (x, tail) (reader n room (text tail)))
-      (λ v. own) (λ n o g v room tail r. raise n (omega arith) room (over n tail o) r (g (omega arith) room tail (omega arith))) l h }
+  within = w;
+  begins = b;
+  back = λ l h. le_ind (λ n. n ≤ 8 → (room : ℕ) (tail : List Sign) → n < reach (ahead tail) → Gets 1 (text tail) tail (x, tail) (reader n room (text tail)))
+      (λ v. own) (λ n o g v room tail r. raise n (omega arith) room (over n tail o) r (g (omega arith) room tail (omega arith))) l h;
+}
   where
     over : (n : ℕ) (tail : List Sign) → level ≤ n → opens (ahead (text tail)) ≤ n
     over n tail o = let c = b tail in omega arith

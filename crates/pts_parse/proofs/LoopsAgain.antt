@@ -91,12 +91,12 @@ no_bracket (x ∷ xs) tail e = by x.minus
 -- a sum with which something starts
 initial_from_sum : (room : ℕ) (negative : Bool) (first : Atom) (xs : List SumPart) (tail : List Sign) → goes_on (ahead tail) ≡ false → same (k.Mark m.OpenBracket) (ahead tail) ≡ false
     → Gets 1 (spelling.sum (record { negative = negative; first = first; rest = xs }) tail) tail (initials.Val (vals.Sum (record { negative = negative; first = first; rest = xs })), tail)
-        (initial room (spelling.sum (record { negative = negative; first = first; rest = xs }) tail))
+    (initial room (spelling.sum (record { negative = negative; first = first; rest = xs }) tail))
 unfolding initial initial_behind
 initial_from_sum room true first xs tail e l = behind_sign (next _ (atom_again first _) (initial_sum_again true first xs tail e))
 initial_from_sum room false (atoms.Number n) xs tail e l =
     by_number (λ q. Gets 1 (Number n ∷ each spelling.sum_part xs tail) tail (initials.Val (vals.Sum (record { negative = false; first = atoms.Number n; rest = xs })), tail) (initial_by q room (Number n ∷ each spelling.sum_part xs tail)))
-      (next _ (number_again n _) (initial_sum_again false (atoms.Number n) xs tail e)) (next _ (number_again n _) (initial_sum_again false (atoms.Number n) xs tail e)) n
+    (next _ (number_again n _) (initial_sum_again false (atoms.Number n) xs tail e)) (next _ (number_again n _) (initial_sum_again false (atoms.Number n) xs tail e)) n
 initial_from_sum room false (atoms.Name text) xs tail e l =
     next _ (name_again text _) (otherwise _ (same (k.Mark m.OpenBracket) (ahead (each spelling.sum_part xs tail))) (no_bracket xs tail l) (initial_sum_again false (atoms.Name text) xs tail e))
 
@@ -205,7 +205,7 @@ stmts_again : {xs : List BodyStmt} → Each FitsBody xs → (room : ℕ) (ts : L
 unfolding sees_bstmt place
 stmts_again {xs = xs} fs room ts =
     subst (λ o. Gets 0 (each bstmt xs (Mark m.CloseBrace ∷ ts)) (Mark m.CloseBrace ∷ ts) (xs, Mark m.CloseBrace ∷ ts) o) (sym (bstmts_is room (each bstmt xs (Mark m.CloseBrace ∷ ts))))
-      (each_again (λ us. same (k.Mark m.Else) (ahead us) ≡ false) (each_to (λ x f. record { seen = f.seen; ends = f.ends; back = λ us l. f.back room us l }) fs) refl (Mark m.CloseBrace ∷ ts) refl refl)
+    (each_again (λ us. same (k.Mark m.Else) (ahead us) ≡ false) (each_to (λ x f. record { seen = f.seen; ends = f.ends; back = λ us l. f.back room us l }) fs) refl (Mark m.CloseBrace ∷ ts) refl refl)
 
 -- inside of one more brace
 inside_brace : (xs : List BodyStmt) (before after : List Sign) (room less : ℕ) → room ≡ suc less → Gets 0 before after (xs, after) (bstmts less before) → Gets 0 before after (xs, after) (inner_bstmts room before)
@@ -226,8 +226,12 @@ else_again room (Some xs) h tail e = at_all (in_case _ (same (k.Mark m.Else) (k.
 
 assign_fits : (at : Place) (x : Expr) → expr_allowed at.index ≡ true → expr_allowed x ≡ true → FitsStmt (stated.assign at x) (b.Assign at x)
 unfolding sees_bstmt place bstmt_of name_stmt assign
-assign_fits at x a c = record { seen = λ ts. refl; ends = λ ts. refl; back = λ room ts l.
-    next _ (name_again at.array _) (next _ (bracketed_again room at.index a _) (next _ (value_again m.Equal room x c ts) done)) }
+assign_fits at x a c = record {
+  seen = λ ts. refl;
+  ends = λ ts. refl;
+  back = λ room ts l.
+      next _ (name_again at.array _) (next _ (bracketed_again room at.index a _) (next _ (value_again m.Equal room x c ts) done));
+}
 
 let_fits : (text : List ℕ) (x : Expr) → expr_allowed x ≡ true → FitsStmt (stated.let_name text x) (b.Let text x)
 unfolding sees_bstmt place bstmt_of let_name
@@ -240,8 +244,12 @@ combine_fits text x a = record { seen = λ ts. refl; ends = λ ts. refl; back = 
 if_fits : (x : Expr) (xs : List BodyStmt) (ys : Option (List BodyStmt)) → expr_allowed x ≡ true → Each FitsBody xs → ((zs : List BodyStmt) → ys ≡ Some zs → Each FitsBody zs)
     → FitsStmt (stated.if_stmt x xs ys) (b.If x xs ys)
 unfolding sees_bstmt place bstmt_of if_stmt
-if_fits x xs ys a fs gs = record { seen = λ ts. refl; ends = λ ts. refl; back = λ room ts l.
-    behind_sign (next _ (expr_again room x a _ (omega arith)) (next _ (braced_again fs room _) (next _ (else_again room ys gs ts l) done))) }
+if_fits x xs ys a fs gs = record {
+  seen = λ ts. refl;
+  ends = λ ts. refl;
+  back = λ room ts l.
+      behind_sign (next _ (expr_again room x a _ (omega arith)) (next _ (braced_again fs room _) (next _ (else_again room ys gs ts l) done)));
+}
 
 vec_off_fits : (xs : List BodyStmt) → Each FitsBody xs → FitsStmt (stated.vec_off xs) (b.VecOff xs)
 unfolding sees_bstmt place bstmt_of vec_off
@@ -249,8 +257,12 @@ vec_off_fits xs fs = record { seen = λ ts. refl; ends = λ ts. refl; back = λ 
 
 ordered_fits : (at : Place) (o : ScalarOp) (x : Expr) → is_some (upd_mark o) ≡ true → expr_allowed at.index ≡ true → expr_allowed x ≡ true → FitsStmt (stated.ordered at o x) (b.Ordered at o x)
 unfolding sees_bstmt place bstmt_of ordered
-ordered_fits at o x s a c = record { seen = λ ts. refl; ends = λ ts. refl; back = λ room ts l.
-    behind_sign (next _ (place_again room at a _) (next _ (upd_again o s _) (next _ (expr_again room x c (Mark m.Semicolon ∷ ts) (omega arith)) (next _ (expect_again m.Semicolon ts) done)))) }
+ordered_fits at o x s a c = record {
+  seen = λ ts. refl;
+  ends = λ ts. refl;
+  back = λ room ts l.
+      behind_sign (next _ (place_again room at a _) (next _ (upd_again o s _) (next _ (expr_again room x c (Mark m.Semicolon ∷ ts) (omega arith)) (next _ (expect_again m.Semicolon ts) done))));
+}
 
 -- ---- all statements
 
@@ -278,23 +290,23 @@ by_case (BodyStmt-F.Combine text x) = subst Back (sym (b.rolls-Combine text x)) 
 by_case (BodyStmt-F.If x ys None) =
     let xs = map (λ (z : Known). z.0) ys in
     subst Back (sym (b.rolls-If x xs None)) (from_phrase (b.If x xs None) _ (stated.if_stmt x xs None) (phrase-If x xs None) (text-If x xs None)
-      (λ a. let both = and_both (expr_allowed x && list_all phrase_allowed (map phrase xs)) true a in
-        let two = and_both (expr_allowed x) (list_all phrase_allowed (map phrase xs)) both.0 in
-        if_fits x xs None two.0 (each_known ys two.1) (λ zs i. absurd (cc))))
+    (λ a. let both = and_both (expr_allowed x && list_all phrase_allowed (map phrase xs)) true a in
+    let two = and_both (expr_allowed x) (list_all phrase_allowed (map phrase xs)) both.0 in
+    if_fits x xs None two.0 (each_known ys two.1) (λ zs i. absurd (cc))))
 by_case (BodyStmt-F.If x ys (Some zs)) =
     let xs = map (λ (z : Known). z.0) ys in
     let others = map (λ (z : Known). z.0) zs in
     subst Back (sym (b.rolls-If x xs (Some others))) (from_phrase (b.If x xs (Some others)) _ (stated.if_stmt x xs (Some others)) (phrase-If x xs (Some others)) (text-If x xs (Some others))
-      (λ a. let both = and_both (expr_allowed x && list_all phrase_allowed (map phrase xs)) (list_all phrase_allowed (map phrase others)) a in
-        let two = and_both (expr_allowed x) (list_all phrase_allowed (map phrase xs)) both.0 in
-        if_fits x xs (Some others) two.0 (each_known ys two.1) (λ us i. let j : others ≡ us = cc in subst (Each FitsBody) j (each_known zs both.1))))
+    (λ a. let both = and_both (expr_allowed x && list_all phrase_allowed (map phrase xs)) (list_all phrase_allowed (map phrase others)) a in
+    let two = and_both (expr_allowed x) (list_all phrase_allowed (map phrase xs)) both.0 in
+    if_fits x xs (Some others) two.0 (each_known ys two.1) (λ us i. let j : others ≡ us = cc in subst (Each FitsBody) j (each_known zs both.1))))
 by_case (BodyStmt-F.VecOff ys) =
     let xs = map (λ (z : Known). z.0) ys in
     subst Back (sym (b.rolls-VecOff xs)) (from_phrase (b.VecOff xs) _ (stated.vec_off xs) (phrase-VecOff xs) (text-VecOff xs) (λ a. vec_off_fits xs (each_known ys a)))
 by_case (BodyStmt-F.Ordered at o x) = subst Back (sym (b.rolls-Ordered at o x)) (from_phrase (b.Ordered at o x) _ (stated.ordered at o x) (phrase-Ordered at o x) (text-Ordered at o x)
     (λ a. let both = and_both (is_some (upd_mark o) && expr_allowed at.index) (expr_allowed x) a in
-      let two = and_both (is_some (upd_mark o)) (expr_allowed at.index) both.0 in
-      ordered_fits at o x two.0 two.1 both.1))
+    let two = and_both (is_some (upd_mark o)) (expr_allowed at.index) both.0 in
+    ordered_fits at o x two.0 two.1 both.1))
 
 pub bstmt_fits : (x : BodyStmt) → bstmt_allowed x ≡ true → FitsBody x
 bstmt_fits = ind-BodyStmt Back (λ x y is. subst (λ z. Back (roll-BodyStmt z)) is (by_case y))
@@ -312,7 +324,7 @@ loop_head_again p text ts = next _ (policy_again p _) (next _ (name_again text _
 
 bounds_again : (low high : Sum) (x : Option Sum) (ts : List Sign) → EndsClause ts
     → Gets 1 (spelling.sum low (Mark m.To ∷ spelling.sum high (optional stated.step_part x ts))) ts (((low, high), x), ts)
-        (bounds (spelling.sum low (Mark m.To ∷ spelling.sum high (optional stated.step_part x ts))))
+    (bounds (spelling.sum low (Mark m.To ∷ spelling.sum high (optional stated.step_part x ts))))
 unfolding bounds goes_on
 bounds_again low high x ts l =
     next _ (sum_again low _ refl) (next _ (expect_again m.To _) (next _ (sum_again high _ (step_ends x ts l).0) (next _ (step_again x ts l.no_step l.no_sum) done)))

@@ -72,7 +72,7 @@ unfolding vals next_vals sees_comma goes_on place
 vals_again [] a ts = absurd (true≢false (sym a))
 vals_again (x ∷ xs) a ts =
     next _ (val_again x _ (val_ends xs ts))
-      (next _ (each_again (λ us. goes_on (ahead us) ≡ false) (each_so (λ y. val_repeats y) xs) refl (Mark m.Semicolon ∷ ts) refl refl) done)
+    (next _ (each_again (λ us. goes_on (ahead us) ≡ false) (each_so (λ y. val_repeats y) xs) refl (Mark m.Semicolon ∷ ts) refl refl) done)
 
 start_again : (x : Start) → start_allowed x ≡ true → (ts : List Sign) → Gets 1 (scripts.start x (Mark m.Semicolon ∷ ts)) (Mark m.Semicolon ∷ ts) (x, Mark m.Semicolon ∷ ts) (start (scripts.start x (Mark m.Semicolon ∷ ts)))
 unfolding start iota goes_on
@@ -207,7 +207,7 @@ whole_script room x a =
     let both = and_both (x.version == 1) (list_all item_allowed x.items) a in
     let v : x.version ≡ 1 = eqb-true x.version 1 both.0 in
     subst (λ n. Gets 1 (scripts.script (record { version = n; items = x.items }) []) [] (record { version = n; items = x.items }) (script room (scripts.script (record { version = n; items = x.items }) []))) (sym v)
-      (script_of_items room x.items both.1)
+    (script_of_items room x.items both.1)
 
 -- the script that signs spell is read from them, or a bracket among them is one too many
 pub script_again : (room : ℕ) (ts : List Sign) (x : Script) → Spells ts x → (script room ts ≡ Ok x) ⊎ ((left : ℕ) × (script room ts ≡ Err (stops.Nesting left)))

@@ -78,7 +78,7 @@ sum_again x tail e = by x.negative
     by true = behind_sign (sum_from_again true x.first x.rest tail e)
     by false =
         otherwise _ (same (k.Mark m.MinusSign) (ahead from)) (atom_begins (λ q. same (k.Mark m.MinusSign) q) false refl refl refl x.first (each spelling.sum_part x.rest tail))
-          (sum_from_again false x.first x.rest tail e)
+        (sum_from_again false x.first x.rest tail e)
 
 -- what a test says of numbers, names and `-` it says of the first sign of a sum
 pub sum_begins : (test : SignKind → Bool) (b : Bool) → test k.Number ≡ b → test k.One ≡ b → test k.Name ≡ b → test (k.Mark m.MinusSign) ≡ b
