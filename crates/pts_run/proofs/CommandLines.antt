@@ -347,15 +347,6 @@ print_command (x ∷ []) word one is print commands.Print =
     let x_is : string_bytes x ≡ codes "print" = ap string_bytes (sym is) ∙ print in
     (λ e. ap (λ t. t ∷ []) x_is, λ h. refl)
 
-pub no_command : {Z : Type 0} (words : List (String Z)) (word : String Z) → 1 ≤ length words → word ≡ get_or words 0 word → string_bytes word ≢ codes "run" → (string_bytes word ≡ codes "print" → length words ≡ 1 → ⊥)
-    → (command : Command) → (None ≡ Some command) ↔ IsCommand (map string_bytes words) command
-no_command [] word some is run print command = absurd (omega arith)
-no_command (x ∷ ws) word some is run print (commands.Run pool) =
-    (λ e. absurd (cc), λ h. absurd (run (ap string_bytes is ∙ (run_is (string_bytes x) (map string_bytes ws) pool h).0)))
-no_command (x ∷ []) word some is run print commands.Print =
-    (λ e. absurd (cc), λ h. let named : string_bytes x ≡ codes "print" = cc in absurd (print (ap string_bytes is ∙ named) refl))
-no_command (x ∷ y ∷ ws) word some is run print commands.Print = (λ e. absurd (cc), λ h. absurd (cc))
-
 -- one word
 pub single : {A : Type 0} (words : List A) → 1 ≤ length words → length (take (length words - 1) (drop 1 words)) ≡ 0 → length words ≡ 1
 single [] some h = absurd (omega arith)

@@ -1,11 +1,7 @@
 -- How a call ends that was to write a whole text.
-use Rattle.std.proofs.Common.{◌≡◌, ◌≢◌, ◌≤◌, ℕ, List, [], ◌++◌, length, Option, Some, None, Result, Ok, Err, IfSome, OnOk, refl, sym, ap, subst, ◌∙◌, inl, inr, arith}
-use Rattle.std.specs.Io.{StartsWith}
+use Rattle.std.proofs.Common.{◌≡◌, ◌≢◌, ◌≤◌, ℕ, List, ◌++◌, length, Option, Some, None, Result, Ok, Err, IfSome, OnOk, refl, sym, ap, subst, inl, inr, arith}
 use Rattle.std.specs.Io.KnownBytes.{Appends}
-use Rattle.std.proofs.lemmas.List.{append-nil}
-use Rattle.std.proofs.KnownBytes.{Appends-nil}
 use Rattle.pts_tree.specs.declared.script.Script.{Script}
-use Rattle.pts_print.specs.Canonical.{canonical}
 use Rattle.pts_boards.specs.declared.pool.Pool.{Pool}
 use Rattle.pts_run.specs.declared.first.First.{First}
 use Rattle.pts_run.specs.declared.refusal.Refusal.{Refusal}
@@ -19,7 +15,6 @@ use Rattle.pts_run.specs.declared.words.Command.TheVariants as commands
 use Rattle.pts_run.specs.First.{IsFirst}
 use Rattle.pts_run.specs.Output.{Reads, Accepts, Refuses, Takes, IsWholeText, IsAsScriptSays, Wrote, WrotePart, script_limit}
 use Rattle.pts_run.specs.Writing.{IsStatusOf, WritesRun, WritesRunPart, Leaves, Ends}
-use Rattle.pts_run.specs.Text.{refusal_line}
 
 -- ---- known bytes
 
@@ -52,24 +47,6 @@ run_ends pool bytes script made written answer old new reads first whole part is
       part = (part.text, inr (inl (part.whole, (made, part.count, accepts, part.is_text), part.starts)), part.appends);
     }
 
-pub print_ends : {T : Type 0} (bytes : List ℕ) (script : Script) (written : Result T WriteEnd) (answer : Status) (text : List ℕ) (old new : Option (List ℕ)) → Reads bytes script
-    → OnOk written (Appends old new (canonical script)) → StartsWith (canonical script) text → Appends old new text → IsStatusOf status.Done written answer → Ends commands.Print bytes answer old new
-print_ends bytes script written answer text old new reads whole starts part is = record {
-  leaves = leaves_by commands.Print bytes status.Done written answer old new is (on_ok written (λ h. (canonical script, (script, reads, refl), h)) whole);
-  part = (text, inr (inl (canonical script, (script, reads, refl), starts)), part);
-}
-
-pub refusal_ends : {T : Type 0} (command : Command) (bytes : List ℕ) (reason : Refusal) (written : Result T WriteEnd) (answer : Status) (text : List ℕ) (old new : Option (List ℕ)) → Refuses command bytes reason
-    → OnOk written (Appends old new (refusal_line reason)) → StartsWith (refusal_line reason) text → Appends old new text → IsStatusOf status.Refused written answer → Ends command bytes answer old new
-refusal_ends command bytes reason written answer text old new refuses whole starts part is = record {
-  leaves = leaves_by command bytes status.Refused written answer old new is (on_ok written (λ h. (refusal_line reason, (reason, refuses, refl), h)) whole);
-  part = (text, inr (inr (reason, refuses, starts)), part);
-}
-
--- for want of memory nothing is written
-pub nothing_ends : (command : Command) (bytes : List ℕ) (old : Option (List ℕ)) → Ends command bytes status.NoMemory old old
-nothing_ends command bytes old = record { leaves = tt; part = ([], inl refl, Appends-nil old) }
-
 -- ---- what the whole call wrote
 
 pub wrote_done : (command : Command) (bytes held : List ℕ) (answer : Status) (old new : Option (List ℕ)) → old ≡ Some held → answer ≡ status.Done
@@ -96,10 +73,6 @@ wrote command bytes held status.ReadFault old new is h calm rises memory = absur
 
 pub wrote_part : (command : Command) (bytes held : List ℕ) (answer : Status) (old new : Option (List ℕ)) → old ≡ Some held → Ends command bytes answer old new → WrotePart command bytes held new
 wrote_part command bytes held answer old new is h = (h.part.0, h.part.1, appended old new held h.part.0 is h.part.2)
-
--- nothing was written
-pub wrote_nothing : (command : Command) (bytes held : List ℕ) (new : Option (List ℕ)) → new ≡ Some held → WrotePart command bytes held new
-wrote_nothing command bytes held new is = ([], inl refl, is ∙ ap Some (sym (append-nil held)))
 
 takes : (command : Command) (bytes text : List ℕ) → IsWholeText command bytes text → Takes command bytes
 takes (commands.Run pool) bytes text h = (h.0, h.1)

@@ -109,14 +109,17 @@ array script x =
 
 -- ---- statements
 
+-- the word `reduce`
 abbrev pub is_reduce : CallForm → Bool
 is_reduce forms.Reduce = true
 is_reduce _ = false
 
+-- the policy that runs in order
 abbrev pub is_seq : Policy → Bool
 is_seq policies.Seq = true
 is_seq _ = false
 
+-- the word `plus`
 abbrev pub is_plus : Option Op → Bool
 is_plus (Some (op_variants.Table ops.Plus)) = true
 is_plus _ = false
@@ -125,12 +128,12 @@ is_plus _ = false
 abbrev pub is_sum : Call → Bool
 is_sum x = is_reduce x.form && (is_seq x.policy && (is_none x.second && (is_none x.target && (is_plus x.op && (is_none x.function && is_none x.store)))))
 
--- a value that is there
+-- the number that a value is, where there is one
 abbrev pub plain_init : Option Val → Option ℕ
 plain_init None = None
 plain_init (Some v) = plain_value v
 
--- a sum
+-- the sum that a call is
 unfoldable pub sum : First → Call → Option FirstStatement
 sum script x =
     when (is_sum x)

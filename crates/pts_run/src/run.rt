@@ -84,7 +84,11 @@ pub fn write_refusal<K: Sink>(alloc: Global, refusal: Refusal, sink: &mut K) -> 
 }
 
 /// Writes the canonical spelling of a script.
-pub fn write_canonical<K: Sink>(alloc: Global, script: &Script, sink: &mut K) -> Result<(), WriteEnd>
+pub fn write_canonical<K: Sink>(
+    alloc: Global,
+    script: &Script,
+    sink: &mut K,
+) -> Result<(), WriteEnd>
     ensures whole { OnOk result (Appends (K.written sink.old) (K.written sink.new) (canonical script.now)) }
     ensures part { (text : List ℕ) × StartsWith (canonical script.now) text × Appends (K.written sink.old) (K.written sink.new) text }
     ensures fault { result ≡ Err WriteEnd.Fault → HasRisen (K.faults sink.old) (K.faults sink.new) }

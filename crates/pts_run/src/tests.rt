@@ -50,9 +50,15 @@ fn reads_the_words_of_a_run(rt: HostRuntime) -> Result<(), Fail> {
     ];
     for (texts, workers, chunk) in table {
         let pool = Pool::new(workers, chunk).ok_or("no pool")?;
-        assert_eq!(rt; read_words(&words(alloc, texts)?), Some(Command::Run { pool }));
+        assert_eq!(rt;
+            read_words(&words(alloc, texts)?),
+            Some(Command::Run { pool })
+        );
     }
-    assert_eq!(rt; read_words(&words(alloc, &["print"])?), Some(Command::Print));
+    assert_eq!(rt;
+        read_words(&words(alloc, &["print"])?),
+        Some(Command::Print)
+    );
     Ok(())
 }
 
@@ -257,11 +263,7 @@ fn at_most_64_brackets_are_open(rt: HostRuntime) -> Result<(), Fail> {
 #[test]
 fn prints_the_canonical_spelling(rt: HostRuntime) -> Result<(), Fail> {
     let table: [(&[u8], Status, &[u8]); 3] = [
-        (
-            b"pts 01;print  a;",
-            Status::Done,
-            b"pts 1 ;\nprint a ;\n",
-        ),
+        (b"pts 01;print  a;", Status::Done, b"pts 1 ;\nprint a ;\n"),
         (
             b"pts 1; array a: u64[1] = fill 4;",
             Status::Done,
@@ -286,13 +288,7 @@ fn stops_at_a_fault(rt: HostRuntime) -> Result<(), Fail> {
         (NEVER, 1, Status::WriteFault, b"1: reduce 6\n"),
     ];
     for (failing_read, failing_write, status, text) in table {
-        let (found, sink) = call(
-            rt.alloc(),
-            &["run"],
-            TWO_LINES,
-            failing_read,
-            failing_write,
-        )?;
+        let (found, sink) = call(rt.alloc(), &["run"], TWO_LINES, failing_read, failing_write)?;
         assert_eq!(rt; sink.bytes(), text);
         assert_eq!(rt; found, status);
     }

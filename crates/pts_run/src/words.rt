@@ -38,13 +38,13 @@ impl Settings {
         if name == "--workers" && self.workers.is_none() {
             return Some(Settings {
                 workers: Some(number),
-                chunk: self.chunk,
+                ..self
             });
         }
         if name == "--chunk" && self.chunk.is_none() {
             return Some(Settings {
-                workers: self.workers,
                 chunk: Some(number),
+                ..self
             });
         }
         None
