@@ -1,7 +1,10 @@
 -- How a call ends that was to write a whole text.
-use Rattle.std.proofs.Common.{◌≡◌, ◌≢◌, ◌≤◌, ℕ, List, ◌++◌, length, Option, Some, None, Result, Ok, Err, IfSome, OnOk, refl, sym, ap, subst, inl, inr, arith}
+use Rattle.std.proofs.Common.{◌≡◌, ◌≢◌, ◌≤◌, ℕ, List, [], ◌++◌, length, Option, Some, None, Result, Ok, Err, IfSome, OnOk, refl, sym, ap, subst, inl, inr, arith}
+use Rattle.std.specs.Io.{StartsWith}
 use Rattle.std.specs.Io.KnownBytes.{Appends}
+use Rattle.std.proofs.KnownBytes.{Appends-nil}
 use Rattle.pts_tree.specs.declared.script.Script.{Script}
+use Rattle.pts_print.specs.Canonical.{canonical}
 use Rattle.pts_boards.specs.declared.pool.Pool.{Pool}
 use Rattle.pts_run.specs.declared.first.First.{First}
 use Rattle.pts_run.specs.declared.refusal.Refusal.{Refusal}
@@ -14,6 +17,7 @@ use Rattle.pts_run.specs.declared.words.Command.{Command}
 use Rattle.pts_run.specs.declared.words.Command.TheVariants as commands
 use Rattle.pts_run.specs.First.{IsFirst}
 use Rattle.pts_run.specs.Output.{Reads, Accepts, Refuses, Takes, IsWholeText, IsAsScriptSays, Wrote, WrotePart, script_limit}
+use Rattle.pts_run.specs.Text.{refusal_line}
 use Rattle.pts_run.specs.Writing.{IsStatusOf, WritesRun, WritesRunPart, Leaves, Ends}
 
 -- ---- known bytes
@@ -46,6 +50,24 @@ run_ends pool bytes script made written answer old new reads first whole part is
       leaves = leaves_by (commands.Run pool) bytes status.Done written answer old new is (on_ok written (λ ran. (ran.text, (made, accepts, ran.is_text), ran.appends)) whole);
       part = (part.text, inr (inl (part.whole, (made, part.count, accepts, part.is_text), part.starts)), part.appends);
     }
+
+pub print_ends : {T : Type 0} (bytes : List ℕ) (script : Script) (written : Result T WriteEnd) (answer : Status) (text : List ℕ) (old new : Option (List ℕ)) → Reads bytes script
+    → OnOk written (Appends old new (canonical script)) → StartsWith (canonical script) text → Appends old new text → IsStatusOf status.Done written answer → Ends commands.Print bytes answer old new
+print_ends bytes script written answer text old new reads whole starts part is = record {
+  leaves = leaves_by commands.Print bytes status.Done written answer old new is (on_ok written (λ h. (canonical script, (script, reads, refl), h)) whole);
+  part = (text, inr (inl (canonical script, (script, reads, refl), starts)), part);
+}
+
+pub refusal_ends : {T : Type 0} (command : Command) (bytes : List ℕ) (reason : Refusal) (written : Result T WriteEnd) (answer : Status) (text : List ℕ) (old new : Option (List ℕ)) → Refuses command bytes reason
+    → OnOk written (Appends old new (refusal_line reason)) → StartsWith (refusal_line reason) text → Appends old new text → IsStatusOf status.Refused written answer → Ends command bytes answer old new
+refusal_ends command bytes reason written answer text old new refuses whole starts part is = record {
+  leaves = leaves_by command bytes status.Refused written answer old new is (on_ok written (λ h. (refusal_line reason, (reason, refuses, refl), h)) whole);
+  part = (text, inr (inr (reason, refuses, starts)), part);
+}
+
+-- for want of memory nothing is written
+pub nothing_ends : (command : Command) (bytes : List ℕ) (old : Option (List ℕ)) → Ends command bytes status.NoMemory old old
+nothing_ends command bytes old = record { leaves = tt; part = ([], inl refl, Appends-nil old) }
 
 -- ---- what the whole call wrote
 

@@ -42,7 +42,10 @@ pub fn read_script<S: Source>(alloc: Global, source: &mut S) -> Result<Script, S
         Err(ReadEnd::Fault) => return Err(ScriptFault::Source),
         Err(ReadEnd::NoMemory) => return Err(ScriptFault::NoMemory),
     };
-    parse(alloc, &bytes).map_err(fault_of)
+    match parse(alloc, &bytes) {
+        Ok(script) => Ok(script),
+        Err(fault) => Err(fault_of(fault)),
+    }
 }
 
 // Why a text within the limit is refused that is no script.

@@ -1,4 +1,4 @@
-use Rattle.pts_run.proofs.Endings.{run_ends}
+use Rattle.pts_run.proofs.Endings.{run_ends, print_ends, nothing_ends}
 use Rattle.pts_run.proofs.Ranges.{all_in_range}
 use Rattle.pts_run.proofs.answer.answer.Goals as goal
 
@@ -13,3 +13,11 @@ pub returns-in-Err-Later-clause-ends : goal.returns-in-Err-Later-clause-ends
 returns-in-Err-Later-clause-ends g c = λ bytes reads.
     let later = rw c.in-Err-Later.field-0-is at c.in-Err-Later.ensures.fault in
     c.refuse.ensures.ends c.args.command bytes (rw c.in-Run.is (c.args.script.now, reads, later))
+
+pub returns-in-Err-NoMemory-clause-ends : goal.returns-in-Err-NoMemory-clause-ends
+returns-in-Err-NoMemory-clause-ends g c = λ bytes reads. nothing_ends c.args.command bytes _
+
+pub returns-in-Print-clause-ends : goal.returns-in-Print-clause-ends
+returns-in-Print-clause-ends g c = λ bytes reads.
+    let part = c.write_canonical.ensures.part in
+    rw c.in-Print.is (print_ends bytes c.args.script.now c.write_canonical.result c.status_of-in-Print.result part.0 _ _ reads c.write_canonical.ensures.whole part.1 part.2 c.status_of-in-Print.ensures)
