@@ -1,78 +1,119 @@
 -- How a call ends that was to write a whole text.
-use Rattle.std.proofs.Common.{◌≡◌, ◌≢◌, ◌≤◌, ℕ, List, ◌++◌, length, Option, Some, None, Result, Ok, Err, IfSome, OnOk, refl, sym, ap, subst, ◌∙◌, inl, inr, arith}
+use Rattle.std.proofs.Common.{◌≡◌, ◌≢◌, ◌≤◌, ℕ, List, [], ◌++◌, length, Option, Some, None, Result, Ok, Err, IfSome, OnOk, refl, sym, ap, subst, inl, inr, arith}
 use Rattle.std.specs.Io.{StartsWith}
 use Rattle.std.specs.Io.KnownBytes.{Appends}
-use Rattle.pts_syntax.specs.declared.first.First.{First}
+use Rattle.std.proofs.KnownBytes.{Appends-nil}
+use Rattle.pts_tree.specs.declared.script.Script.{Script}
+use Rattle.pts_print.specs.Canonical.{canonical}
+use Rattle.pts_boards.specs.declared.pool.Pool.{Pool}
+use Rattle.pts_run.specs.declared.first.First.{First}
 use Rattle.pts_run.specs.declared.refusal.Refusal.{Refusal}
-use Rattle.pts_run.specs.declared.refusal.Refusal.TheVariants.{TooLong, Later}
+use Rattle.pts_run.specs.declared.refusal.Refusal.TheVariants.{TooLong}
 use Rattle.pts_run.specs.declared.run.WriteEnd.{WriteEnd}
 use Rattle.pts_run.specs.declared.run.WriteEnd.TheVariants as ends
 use Rattle.pts_run.specs.declared.status.Status.{Status}
 use Rattle.pts_run.specs.declared.status.Status.TheVariants as status
-use Rattle.pts_run.specs.Output.{Accepts, Refuses, IsAsScriptSays, Wrote, WrotePart, script_limit}
-use Rattle.pts_run.specs.Writing.{IsStatusOf, WritesRun, WritesRunPart}
+use Rattle.pts_run.specs.declared.words.Command.{Command}
+use Rattle.pts_run.specs.declared.words.Command.TheVariants as commands
+use Rattle.pts_run.specs.First.{IsFirst}
+use Rattle.pts_run.specs.Output.{Reads, Accepts, Refuses, Takes, IsWholeText, IsAsScriptSays, Wrote, WrotePart, script_limit}
 use Rattle.pts_run.specs.Text.{refusal_line}
+use Rattle.pts_run.specs.Writing.{IsStatusOf, WritesRun, WritesRunPart, Leaves, Ends}
 
 -- ---- known bytes
 
 pub known : (left : Option (List ℕ)) (bytes : List ℕ) (P : List ℕ → Type 0) → left ≡ Some bytes → IfSome left P → P bytes
 known left bytes P is h = rw is at h
 
-pub appended : (old new : Option (List ℕ)) (held text : List ℕ) → old ≡ Some held → Appends old new text → new ≡ Some (held ++ text)
+appended : (old new : Option (List ℕ)) (held text : List ℕ) → old ≡ Some held → Appends old new text → new ≡ Some (held ++ text)
 appended None new held text is h = absurd (cc)
 appended (Some x) None held text is h = absurd h
 appended (Some x) (Some y) held text is h = let same : x ≡ held = cc in rw (← same) (ap Some h)
 
--- ---- the status
+-- ---- what the parts of a call leave
 
--- an answer of its own says that all was written
-ended : {T P : Type 0} (whole : Status) (written : Result T WriteEnd) (answer : Status) → whole ≢ status.WriteFault → whole ≢ status.NoMemory
-    → IsStatusOf whole written answer → answer ≡ whole → OnOk written P → P
-ended whole (Ok x) answer f m is e h = h
-ended whole (Err ends.Fault) answer f m is e h = absurd (f (sym e ∙ is.fault refl))
-ended whole (Err ends.NoMemory) answer f m is e h = absurd (m (sym e ∙ is.memory refl))
+leaves_by : {T : Type 0} (command : Command) (bytes : List ℕ) (whole : Status) (written : Result T WriteEnd) (answer : Status) (old new : Option (List ℕ))
+    → IsStatusOf whole written answer → OnOk written (Leaves command bytes whole old new) → Leaves command bytes answer old new
+leaves_by command bytes whole (Ok x) answer old new is h = subst (λ (s : Status). Leaves command bytes s old new) (sym is.all) h
+leaves_by command bytes whole (Err ends.Fault) answer old new is h = subst (λ (s : Status). Leaves command bytes s old new) (sym (is.fault refl)) tt
+leaves_by command bytes whole (Err ends.NoMemory) answer old new is h = subst (λ (s : Status). Leaves command bytes s old new) (sym (is.memory refl)) tt
 
-pub ended_done : {T P : Type 0} (written : Result T WriteEnd) (answer : Status) → IsStatusOf status.Done written answer → answer ≡ status.Done → OnOk written P → P
-ended_done written answer is e h = ended status.Done written answer (λ same. absurd (cc)) (λ same. absurd (cc)) is e h
+on_ok : {T E P Q : Type 0} (r : Result T E) → (P → Q) → OnOk r P → OnOk r Q
+on_ok (Ok x) f h = f h
+on_ok (Err e) f h = tt
 
-pub ended_refused : {T P : Type 0} (written : Result T WriteEnd) (answer : Status) → IsStatusOf status.Refused written answer → answer ≡ status.Refused → OnOk written P → P
-ended_refused written answer is e h = ended status.Refused written answer (λ same. absurd (cc)) (λ same. absurd (cc)) is e h
+pub run_ends : {T : Type 0} (pool : Pool) (bytes : List ℕ) (script : Script) (made : First) (written : Result T WriteEnd) (answer : Status) (old new : Option (List ℕ)) → Reads bytes script → IsFirst script made
+    → OnOk written (WritesRun made (length made.statements) old new) → WritesRunPart made old new → IsStatusOf status.Done written answer → Ends (commands.Run pool) bytes answer old new
+run_ends pool bytes script made written answer old new reads first whole part is =
+    let accepts : Accepts bytes made = record { script = script; reads = reads; whole = first } in
+    record {
+      leaves = leaves_by (commands.Run pool) bytes status.Done written answer old new is (on_ok written (λ ran. (ran.text, (made, accepts, ran.is_text), ran.appends)) whole);
+      part = (part.text, inr (inl (part.whole, (made, part.count, accepts, part.is_text), part.starts)), part.appends);
+    }
+
+pub print_ends : {T : Type 0} (bytes : List ℕ) (script : Script) (written : Result T WriteEnd) (answer : Status) (text : List ℕ) (old new : Option (List ℕ)) → Reads bytes script
+    → OnOk written (Appends old new (canonical script)) → StartsWith (canonical script) text → Appends old new text → IsStatusOf status.Done written answer → Ends commands.Print bytes answer old new
+print_ends bytes script written answer text old new reads whole starts part is = record {
+  leaves = leaves_by commands.Print bytes status.Done written answer old new is (on_ok written (λ h. (canonical script, (script, reads, refl), h)) whole);
+  part = (text, inr (inl (canonical script, (script, reads, refl), starts)), part);
+}
+
+pub refusal_ends : {T : Type 0} (command : Command) (bytes : List ℕ) (reason : Refusal) (written : Result T WriteEnd) (answer : Status) (text : List ℕ) (old new : Option (List ℕ)) → Refuses command bytes reason
+    → OnOk written (Appends old new (refusal_line reason)) → StartsWith (refusal_line reason) text → Appends old new text → IsStatusOf status.Refused written answer → Ends command bytes answer old new
+refusal_ends command bytes reason written answer text old new refuses whole starts part is = record {
+  leaves = leaves_by command bytes status.Refused written answer old new is (on_ok written (λ h. (refusal_line reason, (reason, refuses, refl), h)) whole);
+  part = (text, inr (inr (reason, refuses, starts)), part);
+}
+
+-- for want of memory nothing is written
+pub nothing_ends : (command : Command) (bytes : List ℕ) (old : Option (List ℕ)) → Ends command bytes status.NoMemory old old
+nothing_ends command bytes old = record { leaves = tt; part = ([], inl refl, Appends-nil old) }
+
+-- ---- what the whole call wrote
+
+pub wrote_done : (command : Command) (bytes held : List ℕ) (answer : Status) (old new : Option (List ℕ)) → old ≡ Some held → answer ≡ status.Done
+    → Ends command bytes answer old new → Wrote command bytes status.Done held new
+wrote_done command bytes held answer old new is done h =
+    let left : Leaves command bytes status.Done old new = subst (λ (s : Status). Leaves command bytes s old new) done h.leaves in
+    (left.0, left.1, appended old new held left.0 is left.2)
+
+pub wrote_refused : (command : Command) (bytes held : List ℕ) (answer : Status) (old new : Option (List ℕ)) → old ≡ Some held → answer ≡ status.Refused
+    → Ends command bytes answer old new → Wrote command bytes status.Refused held new
+wrote_refused command bytes held answer old new is refused h =
+    let left : Leaves command bytes status.Refused old new = subst (λ (s : Status). Leaves command bytes s old new) refused h.leaves in
+    (left.0, left.1, appended old new held left.0 is left.2)
 
 -- with no fault and with memory all is written
-pub quiet : {T P Risen : Type 0} (whole : Status) (written : Result T WriteEnd) (answer : Status) → ¬ Risen → (written ≡ Err ends.Fault → Risen)
-    → IsStatusOf whole written answer → answer ≢ status.NoMemory → OnOk written P → P
-quiet whole (Ok x) answer calm rises is m h = h
-quiet whole (Err ends.Fault) answer calm rises is m h = absurd (calm (rises refl))
-quiet whole (Err ends.NoMemory) answer calm rises is m h = absurd (m (is.memory refl))
+pub wrote : {Risen : Type 0} (command : Command) (bytes held : List ℕ) (answer : Status) (old new : Option (List ℕ)) → old ≡ Some held → Ends command bytes answer old new
+    → ¬ Risen → (answer ≡ status.WriteFault → Risen) → answer ≢ status.NoMemory → Wrote command bytes answer held new
+wrote command bytes held status.Done old new is h calm rises memory = wrote_done command bytes held status.Done old new is refl h
+wrote command bytes held status.Refused old new is h calm rises memory = wrote_refused command bytes held status.Refused old new is refl h
+wrote command bytes held status.WriteFault old new is h calm rises memory = absurd (calm (rises refl))
+wrote command bytes held status.NoMemory old new is h calm rises memory = absurd (memory refl)
+wrote command bytes held status.Usage old new is h calm rises memory = absurd h.leaves
+wrote command bytes held status.ReadFault old new is h calm rises memory = absurd h.leaves
 
--- ---- a run
+pub wrote_part : (command : Command) (bytes held : List ℕ) (answer : Status) (old new : Option (List ℕ)) → old ≡ Some held → Ends command bytes answer old new → WrotePart command bytes held new
+wrote_part command bytes held answer old new is h = (h.part.0, h.part.1, appended old new held h.part.0 is h.part.2)
 
-pub run_wrote : (bytes held : List ℕ) (script : First) (old new : Option (List ℕ)) → old ≡ Some held → Accepts bytes script
-    → WritesRun script (length script.statements) old new → Wrote bytes status.Done held new
-run_wrote bytes held script old new is accepts ran = (ran.text, (script, accepts, ran.is_text), appended old new held ran.text is ran.appends)
+takes : (command : Command) (bytes text : List ℕ) → IsWholeText command bytes text → Takes command bytes
+takes (commands.Run pool) bytes text h = (h.0, h.1)
+takes commands.Print bytes text h = (h.0, h.1)
 
-pub run_wrote_part : (bytes held : List ℕ) (script : First) (old new : Option (List ℕ)) → old ≡ Some held → Accepts bytes script
-    → WritesRunPart script old new → WrotePart bytes held new
-run_wrote_part bytes held script old new is accepts part =
-    (part.text, inr (inl (script, part.count, part.whole, accepts, part.is_text, part.starts)), appended old new held part.text is part.appends)
+-- with no fault the script decides
+pub as_said : {Risen : Type 0} (command : Command) (bytes : List ℕ) (answer : Status) (old new : Option (List ℕ)) → Ends command bytes answer old new
+    → ¬ Risen → (answer ≡ status.WriteFault → Risen) → IsAsScriptSays command bytes answer
+as_said command bytes status.Done old new h calm rises = takes command bytes h.leaves.0 h.leaves.1
+as_said command bytes status.Refused old new h calm rises = (h.leaves.1.0, h.leaves.1.1)
+as_said command bytes status.WriteFault old new h calm rises = absurd (calm (rises refl))
+as_said command bytes status.NoMemory old new h calm rises = tt
+as_said command bytes status.Usage old new h calm rises = absurd h.leaves
+as_said command bytes status.ReadFault old new h calm rises = absurd h.leaves
 
--- ---- a refusal
+-- ---- what the words and the reasons tell
 
-pub refusal_wrote : (bytes held : List ℕ) (reason : Refusal) (old new : Option (List ℕ)) → old ≡ Some held → Refuses bytes reason
-    → Appends old new (refusal_line reason) → Wrote bytes status.Refused held new
-refusal_wrote bytes held reason old new is refuses h = (refusal_line reason, (reason, refuses, refl), appended old new held (refusal_line reason) is h)
+pub for_same : (found command : Command) (bytes : List ℕ) (answer : Status) (old new : Option (List ℕ)) → Some found ≡ Some command → Ends found bytes answer old new → Ends command bytes answer old new
+for_same found command bytes answer old new e h = let same : found ≡ command = cc in subst (λ (k : Command). Ends k bytes answer old new) same h
 
-pub refusal_wrote_part : (bytes held : List ℕ) (reason : Refusal) (text : List ℕ) (old new : Option (List ℕ)) → old ≡ Some held → Refuses bytes reason
-    → StartsWith (refusal_line reason) text → Appends old new text → WrotePart bytes held new
-refusal_wrote_part bytes held reason text old new is refuses starts h = (text, inr (inr (reason, refuses, starts)), appended old new held text is h)
-
--- a script within the limit is refused at its end
-pub refused_at_end : (bytes : List ℕ) (reason : Refusal) (AtEnd : Type 0) → Refuses bytes reason → length bytes ≤ script_limit → ((item : ℕ) → reason ≡ Later item → AtEnd) → AtEnd
-refused_at_end bytes TooLong AtEnd refuses short h = absurd (omega arith)
-refused_at_end bytes (Later item) AtEnd refuses short h = h item refl
-
-pub refusal_as_said : {T Risen : Type 0} (bytes : List ℕ) (reason : Refusal) (written : Result T WriteEnd) (answer : Status) → Refuses bytes reason
-    → ¬ Risen → (written ≡ Err ends.Fault → Risen) → IsStatusOf status.Refused written answer → IsAsScriptSays bytes answer
-refusal_as_said bytes reason (Ok x) answer refuses calm rises is = subst (IsAsScriptSays bytes) (sym is.all) (reason, refuses)
-refusal_as_said bytes reason (Err ends.Fault) answer refuses calm rises is = absurd (calm (rises refl))
-refusal_as_said bytes reason (Err ends.NoMemory) answer refuses calm rises is = subst (IsAsScriptSays bytes) (sym (is.memory refl)) tt
+pub not_too_long : (command : Command) (bytes : List ℕ) (reason : Refusal) → Refuses command bytes reason → length bytes ≤ script_limit → reason ≢ TooLong
+not_too_long command bytes reason refuses short long = let more : Refuses command bytes TooLong = subst (Refuses command bytes) long refuses in absurd (omega arith)

@@ -1,4 +1,9 @@
+pub mod CommandLines
 pub mod Endings
+pub mod Fronts
+pub mod Places
 pub mod Ranges
 pub mod Runs
 pub mod Texts
+pub mod Values
+pub mod WholeItems

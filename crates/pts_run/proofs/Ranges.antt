@@ -2,11 +2,13 @@
 use Rattle.std.proofs.Common.{◌≡◌, ℕ, zero, suc, ◌<◌, List, [], ◌∷◌, ◌++◌, length, get_or, refl, sym, ap, subst, arith, length-append}
 use Rattle.std.specs.List.{All}
 use Rattle.std.proofs.lemmas.List.Elements.{All-push}
-use Rattle.pts_syntax.specs.First.{GoesOn, IsScript, IsWhole, Item, Declares, Does, name_at, cells_at, with_item, no_items}
-use Rattle.pts_syntax.specs.declared.first.First.{First}
-use Rattle.pts_syntax.specs.declared.first.FirstArray.{FirstArray}
-use Rattle.pts_syntax.specs.declared.first.FirstStatement.{FirstStatement}
-use Rattle.pts_syntax.specs.declared.first.FirstStatement.TheVariants as statements
+use Rattle.pts_tree.specs.declared.script.Item.{Item}
+use Rattle.pts_tree.specs.declared.script.Script.{Script}
+use Rattle.pts_run.specs.First.{GoesOn, IsFirst, IsWhole, Entry, Declares, Does, name_at, cells_at, with_entry, no_items}
+use Rattle.pts_run.specs.declared.first.First.{First}
+use Rattle.pts_run.specs.declared.first.FirstArray.{FirstArray}
+use Rattle.pts_run.specs.declared.first.FirstStatement.{FirstStatement}
+use Rattle.pts_run.specs.declared.first.FirstStatement.TheVariants as statements
 use Rattle.pts_run.specs.Ranges.{IsInRange}
 
 -- ---- an array by its number
@@ -36,18 +38,17 @@ in_range_of_more arrays more (statements.Print i) h = simp length-append (omega 
 abbrev AllInRange : First → Type 0
 AllInRange script = All (IsInRange script.arrays) script.statements
 
-all_with_item : (script : First) (item : Item) → AllInRange script → IsWhole script item → AllInRange (with_item script item)
-all_with_item script (Declares a) all whole = λ k d within. in_range_of_more script.arrays (a ∷ []) _ (all k d within)
-all_with_item script (Does (statements.Reduce i low high init)) all whole = All-push (IsInRange script.arrays) script.statements _ all (whole.0, whole.1, whole.2)
-all_with_item script (Does (statements.Print i)) all whole = All-push (IsInRange script.arrays) script.statements _ all whole.0
+all_with_entry : (script : First) (e : Entry) → AllInRange script → IsWhole script e → AllInRange (with_entry script e)
+all_with_entry script (Declares a) all whole = λ k d within. in_range_of_more script.arrays (a ∷ []) _ (all k d within)
+all_with_entry script (Does (statements.Reduce i low high init)) all whole = All-push (IsInRange script.arrays) script.statements _ all (whole.0, whole.1, whole.2)
+all_with_entry script (Does (statements.Print i)) all whole = All-push (IsInRange script.arrays) script.statements _ all whole.0
 
-all_going_on : (before : First) (bytes : List ℕ) (items : List Item) (after : First) (rest : List ℕ) → GoesOn before bytes items after rest → AllInRange before → AllInRange after
-all_going_on before bytes [] after rest goes all = subst AllInRange (sym goes.0) all
-all_going_on before bytes (i ∷ is) after rest goes all =
-    all_going_on (with_item before i) goes.0 is after rest goes.3 (all_with_item before i all goes.2)
+all_going_on : (before : First) (items : List Item) (after : First) → GoesOn before items after → AllInRange before → AllInRange after
+all_going_on before [] after goes all = subst AllInRange (sym goes) all
+all_going_on before (i ∷ is) after goes all = all_going_on (with_entry before goes.0) is after goes.3 (all_with_entry before goes.0 all goes.2)
 
--- the statements of a script that bytes spell are within its arrays
-pub all_in_range : (bytes : List ℕ) (script : First) → IsScript bytes script → All (IsInRange script.arrays) script.statements
-all_in_range bytes script spelled =
+-- the statements that a script makes are within its arrays
+pub all_in_range : (script : Script) (made : First) → IsFirst script made → All (IsInRange made.arrays) made.statements
+all_in_range script made first =
     let none : AllInRange no_items = λ k d within. absurd (omega arith) in
-    all_going_on no_items spelled.2.0 spelled.0 script spelled.1 spelled.2.2 none
+    all_going_on no_items script.items made first none

@@ -4,11 +4,11 @@ use Rattle.std.proofs.lemmas.List.{get_or_default, take_more, length-take-le, ta
 use Rattle.std.specs.Io.KnownBytes.{Appends}
 use Rattle.std.proofs.KnownBytes.{Appends-nil, Appends-trans}
 use Rattle.std.proofs.Transfers.{starts_with_of_append}
-use Rattle.pts_syntax.specs.First.{name_at, cells_at}
-use Rattle.pts_syntax.specs.declared.first.First.{First}
-use Rattle.pts_syntax.specs.declared.first.FirstArray.{FirstArray}
-use Rattle.pts_syntax.specs.declared.first.FirstStatement.{FirstStatement}
-use Rattle.pts_syntax.specs.declared.first.FirstStatement.TheVariants as statements
+use Rattle.pts_run.specs.First.{name_at, cells_at}
+use Rattle.pts_run.specs.declared.first.First.{First}
+use Rattle.pts_run.specs.declared.first.FirstArray.{FirstArray}
+use Rattle.pts_run.specs.declared.first.FirstStatement.{FirstStatement}
+use Rattle.pts_run.specs.declared.first.FirstStatement.TheVariants as statements
 use Rattle.pts_run.specs.Output.{IsRunText}
 use Rattle.pts_run.specs.Writing.{WritesRun, WritesRunPart}
 use Rattle.pts_run.specs.Run.{Answer, Reduced, Printed, Store, start_store, cells_in, sum_of, Performs, PerformsAll}

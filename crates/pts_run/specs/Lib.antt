@@ -1,5 +1,9 @@
+pub mod First
 pub mod Output
 pub mod Ranges
+pub mod Reading
 pub mod Run
+pub mod Settings
 pub mod Text
+pub mod Words
 pub mod Writing

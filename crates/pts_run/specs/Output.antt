@@ -1,12 +1,19 @@
 -- What the top call prints, and what each of its answers says.
-use Rattle.std.specs.Prelude.{◌≡◌, ◌⊎◌, ℕ, ◌<◌, ◌≤◌, List, [], ◌∷◌, ◌++◌, length, Option, Some, codes}
+use Rattle.std.specs.Prelude.{◌≡◌, ◌⊎◌, ℕ, ◌<◌, ◌≤◌, List, [], ◌++◌, length, Option, Some}
 use Rattle.std.specs.Io.{StartsWith}
-use Rattle.pts_syntax.specs.First.{IsScript, IsLater}
-use Rattle.pts_syntax.specs.declared.first.First.{First}
+use Rattle.pts_tree.specs.declared.script.Script.{Script}
+use Rattle.pts_print.specs.Canonical.{canonical}
+use Rattle.pts_syntax.specs.Syntax.{IsParsed, ExplainsKind}
+use Rattle.pts_syntax.specs.declared.reading.SyntaxKind.{SyntaxKind}
+use Rattle.pts_syntax.specs.declared.reading.SyntaxKind.TheVariants as fault_kinds
+use Rattle.pts_run.specs.declared.first.First.{First}
 use Rattle.pts_run.specs.declared.status.Status.{Status}
 use Rattle.pts_run.specs.declared.status.Status.TheVariants as status
 use Rattle.pts_run.specs.declared.refusal.Refusal.{Refusal}
-use Rattle.pts_run.specs.declared.refusal.Refusal.TheVariants.{TooLong, Later}
+use Rattle.pts_run.specs.declared.refusal.Refusal.TheVariants as refusals
+use Rattle.pts_run.specs.declared.words.Command.{Command}
+use Rattle.pts_run.specs.declared.words.Command.TheVariants as commands
+use Rattle.pts_run.specs.First.{IsFirst, IsLater}
 use Rattle.pts_run.specs.Run.{Run, PermittedRun}
 use Rattle.pts_run.specs.Text.{refusal_line, text_of}
 
@@ -14,19 +21,43 @@ use Rattle.pts_run.specs.Text.{refusal_line, text_of}
 abbrev pub script_limit : ℕ
 script_limit = 1048576
 
--- the one list of words that is in the grammar
-abbrev pub IsRun : List (List ℕ) → Type 0
-IsRun words = words ≡ codes "run" ∷ []
+-- ---- what a script is taken for
 
--- the bytes are this script and are run
-pub record Accepts (bytes : List ℕ) (script : First) : Type 0 where
+-- the bytes are within the limit, and spell this script
+pub record Reads (bytes : List ℕ) (script : Script) : Type 0 where
   pub short : length bytes ≤ script_limit
-  pub spells : IsScript bytes script
+  pub parsed : IsParsed bytes script
 
--- the bytes are refused for this
-abbrev pub Refuses : List ℕ → Refusal → Type 0
-Refuses bytes TooLong = script_limit < length bytes
-Refuses bytes (Later item) = (length bytes ≤ script_limit) × IsLater bytes item
+-- the bytes are a script whose items are all whole, and make this
+pub record Accepts (bytes : List ℕ) (made : First) : Type 0 where
+  pub script : Script
+  pub reads : Reads bytes script
+  pub whole : IsFirst script made
+
+-- the bytes are within the limit, and no script, for a fault of this kind at this byte
+abbrev pub FailsAt : List ℕ → ℕ → SyntaxKind → Type 0
+FailsAt bytes at kind = (length bytes ≤ script_limit) × ExplainsKind bytes at kind
+
+-- the bytes are a script that is not run, since this item is not whole; printing asks for no whole items
+abbrev pub IsLaterFor : Command → List ℕ → ℕ → Type 0
+IsLaterFor (commands.Run pool) bytes item = (script : Script) × Reads bytes script × IsLater script item
+IsLaterFor commands.Print bytes item = ⊥
+
+-- the command refuses the bytes for this
+abbrev pub Refuses : Command → List ℕ → Refusal → Type 0
+Refuses command bytes refusals.TooLong = script_limit < length bytes
+Refuses command bytes (refusals.Byte at) = FailsAt bytes at fault_kinds.Byte
+Refuses command bytes (refusals.Number at) = FailsAt bytes at fault_kinds.Number
+Refuses command bytes (refusals.Syntax at) = FailsAt bytes at fault_kinds.Unexpected
+Refuses command bytes (refusals.Nesting at) = FailsAt bytes at fault_kinds.Nesting
+Refuses command bytes (refusals.Later item) = IsLaterFor command bytes item
+
+-- the command takes the bytes
+abbrev pub Takes : Command → List ℕ → Type 0
+Takes (commands.Run pool) bytes = (made : First) × Accepts bytes made
+Takes commands.Print bytes = (script : Script) × Reads bytes script
+
+-- ---- texts
 
 -- the text of a permitted run of the script's first `count` statements
 pub record IsRunText (script : First) (count : ℕ) (text : List ℕ) : Type 0 where
@@ -34,34 +65,47 @@ pub record IsRunText (script : First) (count : ℕ) (text : List ℕ) : Type 0 w
   pub permitted : PermittedRun script count run
   pub text_is : text ≡ text_of run.answers
 
--- the whole text that goes with an answer, for these source bytes
-abbrev pub IsOutput : List ℕ → Status → List ℕ → Type 0
-IsOutput bytes status.Done text = (script : First) × Accepts bytes script × IsRunText script (length script.statements) text
-IsOutput bytes status.Refused text = (reason : Refusal) × Refuses bytes reason × (text ≡ refusal_line reason)
-IsOutput bytes status.Usage text = text ≡ []
-IsOutput bytes status.ReadFault text = text ≡ []
-IsOutput bytes status.WriteFault text = ⊥
-IsOutput bytes status.NoMemory text = ⊥
+-- the whole text that the command gives for bytes that it takes
+abbrev pub IsWholeText : Command → List ℕ → List ℕ → Type 0
+IsWholeText (commands.Run pool) bytes text = (made : First) × Accepts bytes made × IsRunText made (length made.statements) text
+IsWholeText commands.Print bytes text = (script : Script) × Reads bytes script × (text ≡ canonical script)
 
--- what may stand in a sink when the call gave up: a front of the text of a run of some first statements, or of a refusal
-abbrev pub IsPartialOutput : List ℕ → List ℕ → Type 0
-IsPartialOutput bytes text =
+-- the same, or under `run` the text of a run of some first statements
+abbrev pub IsFrontText : Command → List ℕ → List ℕ → Type 0
+IsFrontText (commands.Run pool) bytes text = (made : First) × (count : ℕ) × Accepts bytes made × IsRunText made count text
+IsFrontText commands.Print bytes text = IsWholeText commands.Print bytes text
+
+-- the whole text that goes with an answer of the command, for these source bytes
+abbrev pub IsOutput : Command → List ℕ → Status → List ℕ → Type 0
+IsOutput command bytes status.Done text = IsWholeText command bytes text
+IsOutput command bytes status.Refused text = (reason : Refusal) × Refuses command bytes reason × (text ≡ refusal_line reason)
+IsOutput command bytes status.ReadFault text = text ≡ []
+IsOutput command bytes status.Usage text = ⊥
+IsOutput command bytes status.WriteFault text = ⊥
+IsOutput command bytes status.NoMemory text = ⊥
+
+-- what may stand in a sink when the call gave up: a front of such a text, or of the line of a refusal
+abbrev pub IsPartialOutput : Command → List ℕ → List ℕ → Type 0
+IsPartialOutput command bytes text =
     (text ≡ [])
-    ⊎ ((script : First) × (count : ℕ) × (whole : List ℕ) × Accepts bytes script × IsRunText script count whole × StartsWith whole text)
-    ⊎ ((reason : Refusal) × Refuses bytes reason × StartsWith (refusal_line reason) text)
+    ⊎ ((whole : List ℕ) × IsFrontText command bytes whole × StartsWith whole text)
+    ⊎ ((reason : Refusal) × Refuses command bytes reason × StartsWith (refusal_line reason) text)
+
+-- ---- sinks and answers
 
 -- a sink that held `held` holds the whole text of this answer behind it
-abbrev pub Wrote : List ℕ → Status → List ℕ → Option (List ℕ) → Type 0
-Wrote bytes answer held new = (text : List ℕ) × IsOutput bytes answer text × (new ≡ Some (held ++ text))
+abbrev pub Wrote : Command → List ℕ → Status → List ℕ → Option (List ℕ) → Type 0
+Wrote command bytes answer held new = (text : List ℕ) × IsOutput command bytes answer text × (new ≡ Some (held ++ text))
 
-abbrev pub WrotePart : List ℕ → List ℕ → Option (List ℕ) → Type 0
-WrotePart bytes held new = (text : List ℕ) × IsPartialOutput bytes text × (new ≡ Some (held ++ text))
+-- a sink that held `held` holds behind it what may stand there when the call gave up
+abbrev pub WrotePart : Command → List ℕ → List ℕ → Option (List ℕ) → Type 0
+WrotePart command bytes held new = (text : List ℕ) × IsPartialOutput command bytes text × (new ≡ Some (held ++ text))
 
 -- what a script says the answer is, where nothing fails outside
-abbrev pub IsAsScriptSays : List ℕ → Status → Type 0
-IsAsScriptSays bytes status.Done = (script : First) × Accepts bytes script
-IsAsScriptSays bytes status.Refused = (reason : Refusal) × Refuses bytes reason
-IsAsScriptSays bytes status.NoMemory = Unit {0}
-IsAsScriptSays bytes status.Usage = ⊥
-IsAsScriptSays bytes status.ReadFault = ⊥
-IsAsScriptSays bytes status.WriteFault = ⊥
+abbrev pub IsAsScriptSays : Command → List ℕ → Status → Type 0
+IsAsScriptSays command bytes status.Done = Takes command bytes
+IsAsScriptSays command bytes status.Refused = (reason : Refusal) × Refuses command bytes reason
+IsAsScriptSays command bytes status.NoMemory = Unit {0}
+IsAsScriptSays command bytes status.Usage = ⊥
+IsAsScriptSays command bytes status.ReadFault = ⊥
+IsAsScriptSays command bytes status.WriteFault = ⊥

@@ -1,10 +1,10 @@
 -- Runs of a script: what each statement answers, and the store that it leaves.
 use Rattle.std.specs.Prelude.{◌≡◌, ℕ, zero, suc, ◌≤◌, ◌==◌, if◌then◌else◌, List, [], ◌∷◌, length, take, map, fold, slice_range}
 use Rattle.pts_types.specs.Arithmetic.{sum_u64}
-use Rattle.pts_syntax.specs.First.{name_at}
-use Rattle.pts_syntax.specs.declared.first.First.{First}
-use Rattle.pts_syntax.specs.declared.first.FirstStatement.{FirstStatement}
-use Rattle.pts_syntax.specs.declared.first.FirstStatement.TheVariants as statements
+use Rattle.pts_run.specs.First.{name_at}
+use Rattle.pts_run.specs.declared.first.First.{First}
+use Rattle.pts_run.specs.declared.first.FirstStatement.{FirstStatement}
+use Rattle.pts_run.specs.declared.first.FirstStatement.TheVariants as statements
 
 -- ---- the store
 

@@ -2,7 +2,7 @@
 use Rattle.std.specs.Prelude.{ℕ, ◌+◌, List, [], ◌∷◌, ◌++◌, codes, decimal}
 use Rattle.std.specs.List.{flat_map}
 use Rattle.pts_run.specs.declared.refusal.Refusal.{Refusal}
-use Rattle.pts_run.specs.declared.refusal.Refusal.TheVariants.{TooLong, Later}
+use Rattle.pts_run.specs.declared.refusal.Refusal.TheVariants as refusals
 use Rattle.pts_run.specs.Run.{Answer, Reduced, Printed}
 
 abbrev pub line_feed : List ℕ
@@ -25,6 +25,11 @@ lines_from number (a ∷ rest) = line_of number a ++ lines_from (number + 1) res
 abbrev pub text_of : List Answer → List ℕ
 text_of answers = lines_from 1 answers
 
+-- the line of a refusal
 abbrev pub refusal_line : Refusal → List ℕ
-refusal_line TooLong = codes "refused too_long" ++ line_feed
-refusal_line (Later item) = codes "refused later item " ++ decimal item ++ line_feed
+refusal_line refusals.TooLong = codes "refused too_long" ++ line_feed
+refusal_line (refusals.Byte at) = codes "refused byte at " ++ decimal at ++ line_feed
+refusal_line (refusals.Number at) = codes "refused number at " ++ decimal at ++ line_feed
+refusal_line (refusals.Syntax at) = codes "refused syntax at " ++ decimal at ++ line_feed
+refusal_line (refusals.Nesting at) = codes "refused nesting at " ++ decimal at ++ line_feed
+refusal_line (refusals.Later item) = codes "refused later item " ++ decimal item ++ line_feed

@@ -1,6 +1,10 @@
-//! The top call: words and bytes in, the text of a run or one line of refusal out.
+//! The top call: words and bytes in, the text of a run, a script's canonical spelling or one line of refusal out.
 #![tactic(auto)]
 
+mod answer;
+mod draft;
+mod first;
+mod forms;
 mod lines;
 mod refusal;
 mod run;
@@ -12,5 +16,7 @@ mod tests;
 mod top;
 mod words;
 
+pub use first::{First, FirstArray, FirstFault, FirstStatement, as_first, one_first};
 pub use status::Status;
 pub use top::run_words;
+pub use words::{Command, read_words};

@@ -2,7 +2,7 @@
 
 ghost use Rattle.std.specs.Prelude.{◌≡◌, ◌++◌, OnOk};
 ghost use Rattle.pts_run.specs.Run.{Reduced, Printed};
-ghost use Rattle.pts_run.specs.Text.{line_of, spaced, refusal_line};
+ghost use Rattle.pts_run.specs.Text.{line_feed, line_of, spaced, refusal_line};
 
 use crate::refusal::Refusal;
 use itoa::{Buffer, Integer};
@@ -42,12 +42,22 @@ pub fn push_refusal(text: &mut Vec<u8>, refusal: Refusal) -> Result<(), AllocErr
     ensures { OnOk result (text.new.items ≡ text.old.items ++ refusal_line refusal) }
 {
     match refusal {
-        Refusal::TooLong => text.extend_from_slice(b"refused too_long")?,
-        Refusal::Later(item) => {
-            text.extend_from_slice(b"refused later item ")?;
-            push_number(text, item)?;
-        }
+        Refusal::TooLong => text.extend_from_slice(b"refused too_long\n"),
+        Refusal::Byte(at) => push_counted(text, b"refused byte at ", at),
+        Refusal::Number(at) => push_counted(text, b"refused number at ", at),
+        Refusal::Syntax(at) => push_counted(text, b"refused syntax at ", at),
+        Refusal::Nesting(at) => push_counted(text, b"refused nesting at ", at),
+        Refusal::Later(item) => push_counted(text, b"refused later item ", item),
     }
+}
+
+// A line of these words and a number.
+#[tactic(auto, using(std::proofs::lemmas::List::append_assoc))]
+fn push_counted<I: Integer>(text: &mut Vec<u8>, words: &[u8], number: I) -> Result<(), AllocError>
+    ensures { OnOk result (text.new.items ≡ text.old.items ++ (words.now ++ (I.text number ++ line_feed))) }
+{
+    text.extend_from_slice(words)?;
+    push_number(text, number)?;
     text.extend_from_slice(b"\n")
 }
 

@@ -4,18 +4,22 @@ ghost use Rattle.std.specs.Prelude.{◌≡◌, ◌<◌, ◌≤◌, ◌++◌, Lis
 ghost use Rattle.std.specs.Io.{StartsWith};
 ghost use Rattle.std.specs.Io.KnownBytes.{Appends};
 ghost use Rattle.pts_io.specs.Streams.{HasRisen};
-ghost use Rattle.pts_syntax.specs.First.{name_at, cells_at};
+ghost use Rattle.pts_print.specs.Canonical.{canonical};
+ghost use Rattle.pts_run.specs.First.{name_at, cells_at};
 ghost use Rattle.pts_run.specs.declared.run.WriteEnd.TheVariants.{Fault, NoMemory};
 ghost use Rattle.pts_run.specs.Writing.{WritesRun, WritesRunPart};
 ghost use Rattle.pts_run.specs.Ranges.{IsInRange};
 ghost use Rattle.pts_run.specs.Run.{Answer, Performs, start_store};
 ghost use Rattle.pts_run.specs.Text.{line_of, refusal_line};
 
+use crate::first::{First, FirstArray, FirstStatement};
 use crate::lines::{push_printed, push_reduced, push_refusal};
 use crate::refusal::Refusal;
 use crate::sums::sum_of;
 use pts_io::{Sink, SinkFault, write_all};
-use pts_syntax::{First, FirstArray, FirstStatement};
+use pts_syntax::print;
+use pts_tree::Script;
+use pts_types::NoMemory;
 use std::alloc::{AllocError, Global};
 
 /// Why not all was written.
@@ -29,6 +33,14 @@ impl From<AllocError> for WriteEnd {
     ghost from_gives = { λ _ end. end ≡ NoMemory };
 
     fn from(_: AllocError) -> Self {
+        WriteEnd::NoMemory
+    }
+}
+
+impl From<NoMemory> for WriteEnd {
+    ghost from_gives = { λ _ end. end ≡ NoMemory };
+
+    fn from(_: NoMemory) -> Self {
         WriteEnd::NoMemory
     }
 }
@@ -68,6 +80,22 @@ pub fn write_refusal<K: Sink>(alloc: Global, refusal: Refusal, sink: &mut K) -> 
     let mut line = Vec::new(alloc);
     push_refusal(&mut line, refusal)?;
     write_all(sink, &line)?;
+    Ok(())
+}
+
+/// Writes the canonical spelling of a script.
+pub fn write_canonical<K: Sink>(
+    alloc: Global,
+    script: &Script,
+    sink: &mut K,
+) -> Result<(), WriteEnd>
+    ensures whole { OnOk result (Appends (K.written sink.old) (K.written sink.new) (canonical script.now)) }
+    ensures part { (text : List ℕ) × StartsWith (canonical script.now) text × Appends (K.written sink.old) (K.written sink.new) text }
+    ensures fault { result ≡ Err WriteEnd.Fault → HasRisen (K.faults sink.old) (K.faults sink.new) }
+    ensures counts { K.faults sink.old ≤ K.faults sink.new }
+{
+    let text = print(alloc, script)?;
+    write_all(sink, &text)?;
     Ok(())
 }
 

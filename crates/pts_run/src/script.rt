@@ -1,20 +1,22 @@
 //! Reading the script that a source gives.
 
-ghost use Rattle.std.specs.Prelude.{◌≡◌, ◌≤◌, ℕ, All, Err, IfOk, IfSome, OnOk};
+ghost use Rattle.std.specs.Prelude.{◌≡◌, ◌≢◌, ◌≤◌, ℕ, List, length, Err, IfOk, IfSome, OnOk};
 ghost use Rattle.std.specs.Io.KnownBytes.{IsAtEnd};
 ghost use Rattle.pts_io.specs.Streams.{HasRisen};
-ghost use Rattle.pts_run.specs.Output.{Accepts, Refuses};
-ghost use Rattle.pts_run.specs.Ranges.{IsInRange};
+ghost use Rattle.pts_syntax.specs.Syntax.{Explains};
+ghost use Rattle.pts_run.specs.declared.words.Command.{Command};
+ghost use Rattle.pts_run.specs.Output.{Reads, Refuses, script_limit};
 
 use crate::refusal::Refusal;
 use pts_io::{ReadEnd, Source, read_all};
-use pts_syntax::{First, FirstFault, parse_first};
+use pts_syntax::{SyntaxFault, SyntaxKind, parse};
+use pts_tree::Script;
 use std::alloc::Global;
 
 // The most bytes of a script.
 const SCRIPT_LIMIT: usize = 1_048_576;
 
-/// Why there is no script to run.
+/// Why there is no script.
 #[derive(Clone, Copy, Debug, PartialEq, Eq)]
 pub enum ScriptFault {
     Refused(Refusal),
@@ -22,15 +24,15 @@ pub enum ScriptFault {
     NoMemory,
 }
 
-/// The script that the source gives, whose statements are all within its arrays.
-pub fn read_script<S: Source>(alloc: Global, source: &mut S) -> Result<First, ScriptFault>
-    ensures accepts { IfOk result (λ script. IfSome (S.left source.old) (λ bytes. Accepts bytes script)) }
-    ensures in_range { IfOk result (λ script. All (IsInRange script.arrays) script.statements) }
+/// The script that the source gives.
+pub fn read_script<S: Source>(alloc: Global, source: &mut S) -> Result<Script, ScriptFault>
+    ensures reads { IfOk result (λ script. IfSome (S.left source.old) (λ bytes. Reads bytes script)) }
     ensures end { OnOk result (IsAtEnd (S.left source.new)) }
 
-    // A refusal names its reason, and only TooLong comes before the end.
-    ensures refuses { (reason : Refusal) → result ≡ Err (ScriptFault.Refused reason) → IfSome (S.left source.old) (λ bytes. Refuses bytes reason) }
-    ensures refused_at_the_end { (item : ℕ) → result ≡ Err (ScriptFault.Refused (Refusal.Later item)) → IsAtEnd (S.left source.new) }
+    // A refusal names its reason, whatever the command, and only TooLong comes before the end.
+    ensures refuses { (command : Command) (reason : Refusal) → result ≡ Err (ScriptFault.Refused reason)
+        → IfSome (S.left source.old) (λ bytes. Refuses command bytes reason) }
+    ensures refused_at_the_end { (reason : Refusal) → result ≡ Err (ScriptFault.Refused reason) → reason ≢ Refusal.TooLong → IsAtEnd (S.left source.new) }
     ensures fault { result ≡ Err ScriptFault.Source → HasRisen (S.faults source.old) (S.faults source.new) }
     ensures counts { S.faults source.old ≤ S.faults source.new }
 {
@@ -40,9 +42,24 @@ pub fn read_script<S: Source>(alloc: Global, source: &mut S) -> Result<First, Sc
         Err(ReadEnd::Fault) => return Err(ScriptFault::Source),
         Err(ReadEnd::NoMemory) => return Err(ScriptFault::NoMemory),
     };
-    match parse_first(alloc, &bytes) {
+    match parse(alloc, &bytes) {
         Ok(script) => Ok(script),
-        Err(FirstFault::Later { item }) => Err(ScriptFault::Refused(Refusal::Later(item))),
-        Err(FirstFault::NoMemory) => Err(ScriptFault::NoMemory),
+        Err(fault) => Err(fault_of(fault)),
+    }
+}
+
+// Why a text within the limit is refused that is no script.
+fn fault_of(fault: SyntaxFault) -> ScriptFault
+    ensures refuses { (command : Command) (bytes : List ℕ) (reason : Refusal) → length bytes ≤ script_limit → Explains bytes fault
+        → result ≡ ScriptFault.Refused reason → Refuses command bytes reason }
+    ensures no_source { result ≢ ScriptFault.Source }
+    ensures not_long { result ≢ ScriptFault.Refused Refusal.TooLong }
+{
+    match fault.kind {
+        SyntaxKind::Byte => ScriptFault::Refused(Refusal::Byte(fault.at)),
+        SyntaxKind::Number => ScriptFault::Refused(Refusal::Number(fault.at)),
+        SyntaxKind::Unexpected => ScriptFault::Refused(Refusal::Syntax(fault.at)),
+        SyntaxKind::Nesting => ScriptFault::Refused(Refusal::Nesting(fault.at)),
+        SyntaxKind::NoMemory => ScriptFault::NoMemory,
     }
 }

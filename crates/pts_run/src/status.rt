@@ -3,9 +3,9 @@
 /// How a call ended, in the order of the program's exit statuses, which are 0 to 2 and 4 to 6.
 #[derive(Clone, Copy, Debug, PartialEq, Eq)]
 pub enum Status {
-    /// The script was run and all its lines were written.
+    /// The command was carried out and all its lines were written.
     Done,
-    /// The words are not in the grammar of the command line. Nothing was read or written.
+    /// The words are no command. Nothing was read or written.
     Usage,
     /// The script was refused, and its one line of refusal was written.
     Refused,

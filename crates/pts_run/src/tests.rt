@@ -1,7 +1,9 @@
-//! Whole calls over sources and sinks in memory.
+//! Command lines, and whole calls over sources and sinks in memory.
 
-use crate::{Status, run_words};
+use crate::{Command, FirstFault, FirstStatement, Status, as_first, read_words, run_words};
+use pts_boards::Pool;
 use pts_io::{MemorySink, MemorySource};
+use pts_syntax::parse;
 use std::alloc::{AllocError, Global};
 use std::test::Fail;
 
@@ -20,9 +22,10 @@ fn words(alloc: Global, texts: &[&str]) -> Result<Vec<String>, AllocError> {
         .try_collect(alloc)
 }
 
-// A call of `run` on the script, and the sink that it wrote to. The calls of these numbers fail.
-fn run(
+// A call with these words on the script, and the sink that it wrote to. The calls of these numbers fail.
+fn call(
     alloc: Global,
+    texts: &[&str],
     script: &[u8],
     failing_read: u64,
     failing_write: u64,
@@ -30,13 +33,160 @@ fn run(
     let fails = [failing_read].to_vec(alloc)?;
     let mut source = MemorySource::new(script.to_vec(alloc)?, fails);
     let mut sink = MemorySink::new(alloc, 1000, [failing_write].to_vec(alloc)?)?;
-    let status = run_words(alloc, &words(alloc, &["run"])?, &mut source, &mut sink);
+    let status = run_words(alloc, &words(alloc, texts)?, &mut source, &mut sink);
     Ok((status, sink))
 }
 
 #[test]
+fn reads_the_words_of_a_run(rt: HostRuntime) -> Result<(), Fail> {
+    let alloc = rt.alloc();
+    let table: [(&[&str], u32, u32); 6] = [
+        (&["run"], 4, 1_024),
+        (&["run", "--workers", "1"], 1, 1_024),
+        (&["run", "--chunk", "1"], 4, 1),
+        (&["run", "--workers", "64", "--chunk", "65536"], 64, 65_536),
+        (&["run", "--chunk", "65536", "--workers", "64"], 64, 65_536),
+        (&["run", "--chunk", "10", "--workers", "10"], 10, 10),
+    ];
+    for (texts, workers, chunk) in table {
+        let pool = Pool::new(workers, chunk).ok_or("no pool")?;
+        assert_eq!(rt;
+            read_words(&words(alloc, texts)?),
+            Some(Command::Run { pool })
+        );
+    }
+    assert_eq!(rt;
+        read_words(&words(alloc, &["print"])?),
+        Some(Command::Print)
+    );
+    Ok(())
+}
+
+// Each call of the source and of the sink would fail.
+#[test]
+fn other_words_read_and_write_nothing(rt: HostRuntime) -> Result<(), Fail> {
+    let alloc = rt.alloc();
+    let table: [&[&str]; 26] = [
+        &[],
+        &["Run"],
+        &["run "],
+        &["run", "run"],
+        &["run", "4"],
+        &["run", "--workers"],
+        &["run", "--workers", "0"],
+        &["run", "--workers", "65"],
+        &["run", "--workers", "04"],
+        &["run", "--workers", "+4"],
+        &["run", "--workers", "-4"],
+        &["run", "--workers", ""],
+        &["run", "--workers", "4294967300"],
+        &["run", "--workers=4"],
+        &["run", "--chunk"],
+        &["run", "--chunk", "0"],
+        &["run", "--chunk", "65537"],
+        &["run", "--chunk", "1", "--chunk", "1"],
+        &["run", "--workers", "1", "--workers", "1"],
+        &["run", "--chunk", "1", "--workers"],
+        &["run", "--summary"],
+        &["--workers", "1", "run"],
+        &["print", "x"],
+        &["print", "--workers", "1"],
+        &["check"],
+        &["check", "x"],
+    ];
+    for texts in table {
+        assert_eq!(rt; read_words(&words(alloc, texts)?), None);
+        let (found, sink) = call(alloc, texts, ONE_LINE, 0, 0)?;
+        assert_eq!(rt; found, Status::Usage);
+        assert!(rt; sink.bytes().is_empty());
+    }
+    Ok(())
+}
+
+// Where the items of a script are not whole, the first such item.
+#[test]
+fn names_the_first_item_that_is_not_whole(rt: HostRuntime) -> Result<(), Fail> {
+    let alloc = rt.alloc();
+    let table: [(&[u8], Option<u32>); 18] = [
+        (b"pts 1;", None),
+        (b"pts 1;array a:u64[2]=list 1,002;", None),
+        (b"pts 1; array a: u64[2] = list 1;", Some(1)),
+        (b"pts 1; array a: u64[1] = list 1, 2;", Some(1)),
+        (b"pts 1; array a: u64[0] = list 1;", Some(1)),
+        (b"pts 1; array a: i64[1] = list 1;", Some(1)),
+        (b"pts 1; array a: u64[1] = list -1;", Some(1)),
+        (b"pts 1; array a: u64[1 + 0] = list 1;", Some(1)),
+        (b"pts 1; array a: u64[1] = list 18446744073709551615;", None),
+        (
+            b"pts 1; array a: u64[1] = list 1; array a: u64[1] = list 2;",
+            Some(2),
+        ),
+        (
+            b"pts 1; array a: u64[1] = list 1; reduce seq a[1..1] init 0 plus;",
+            None,
+        ),
+        (
+            b"pts 1; array a: u64[1] = list 1; reduce seq a[1..0] init 0 plus;",
+            Some(2),
+        ),
+        (
+            b"pts 1; array a: u64[1] = list 1; reduce seq a[0..2] init 0 plus;",
+            Some(2),
+        ),
+        (
+            b"pts 1; array a: u64[1] = list 1; reduce seq b[0..1] init 0 plus;",
+            Some(2),
+        ),
+        (
+            b"pts 1; array a: u64[1] = list 1; reduce par a[0..1] init 0 plus;",
+            Some(2),
+        ),
+        (
+            b"pts 1; array a: u64[1] = list 1; reduce seq a[0..1] init 0 plus into a[0];",
+            Some(2),
+        ),
+        (b"pts 1; print a; array a: u64[1] = list 1;", Some(1)),
+        (b"pts 1; array a: u64[1048577] = list 1;", Some(1)),
+    ];
+    for (text, item) in table {
+        let Ok(script) = parse(alloc, text) else {
+            return Err(Fail::from("no script"));
+        };
+        let found = as_first(alloc, &script).map(|_| ()).err();
+        assert_eq!(rt; found, item.map(|item| FirstFault::Later { item }));
+    }
+    Ok(())
+}
+
+#[test]
+fn names_arrays_by_their_numbers(rt: HostRuntime) -> Result<(), Fail> {
+    let text =
+        b"pts 1; array b: u64[1] = list 5; array a_2: u64[3] = list 7, 0, 9; reduce seq a_2[1..3] init 4 plus; print b;";
+    let Ok(script) = parse(rt.alloc(), text) else {
+        return Err(Fail::from("no script"));
+    };
+    let Ok(made) = as_first(rt.alloc(), &script) else {
+        return Err(Fail::from("refused"));
+    };
+    let second = made.arrays.get(1).ok_or("no array")?;
+    assert_eq!(rt; second.name.as_str(), "a_2");
+    assert_eq!(rt; second.cells.as_slice(), [7, 0, 9].as_slice());
+    let sum = FirstStatement::Reduce {
+        array: 1,
+        low: 1,
+        high: 3,
+        init: 4,
+    };
+    assert_eq!(rt;
+        made.statements.as_slice(),
+        [sum, FirstStatement::Print(0)].as_slice()
+    );
+    Ok(())
+}
+
+#[test]
 fn writes_the_lines_or_the_refusal(rt: HostRuntime) -> Result<(), Fail> {
-    let table: [(&[u8], Status, &[u8]); 9] = [
+    let table: [(&[u8], Status, &[u8]); 15] = [
         (b"pts 1;", Status::Done, b""),
         (ONE_LINE, Status::Done, b"1: reduce 6\n"),
         (TWO_LINES, Status::Done, b"1: reduce 6\n2: print a 1 2 3\n"),
@@ -65,10 +215,64 @@ fn writes_the_lines_or_the_refusal(rt: HostRuntime) -> Result<(), Fail> {
             Status::Refused,
             b"refused later item 3\n",
         ),
-        (b"", Status::Refused, b"refused later item 0\n"),
+        (b"", Status::Refused, b"refused syntax at 0\n"),
+        (b"pts 1; @", Status::Refused, b"refused byte at 7\n"),
+        (
+            b"pts 1; const N = 18446744073709551616;",
+            Status::Refused,
+            b"refused number at 17\n",
+        ),
+        (
+            b"pts 1;array a: u64[1] = fill 0;for_loop seq i = 0 to 1 {",
+            Status::Refused,
+            b"refused syntax at 56\n",
+        ),
+        // A fault of a token comes first, though it stands later.
+        (b"pts 1; ) @", Status::Refused, b"refused byte at 9\n"),
+        (b"pts 2;", Status::Refused, b"refused syntax at 4\n"),
+        (b"pts 3;", Status::Refused, b"refused syntax at 4\n"),
     ];
     for (script, status, text) in table {
-        let (found, sink) = run(rt.alloc(), script, NEVER, NEVER)?;
+        let (found, sink) = call(rt.alloc(), &["run"], script, NEVER, NEVER)?;
+        assert_eq!(rt; sink.bytes(), text);
+        assert_eq!(rt; found, status);
+    }
+    Ok(())
+}
+
+// Opening parentheses and nothing behind them.
+#[test]
+fn at_most_64_brackets_are_open(rt: HostRuntime) -> Result<(), Fail> {
+    let alloc = rt.alloc();
+    let front = b"pts 1; fn f(x: u64) -> u64 = ";
+    let table: [(usize, &[u8]); 2] = [
+        (64, b"refused syntax at 93\n"),
+        (65, b"refused nesting at 93\n"),
+    ];
+    for (brackets, text) in table {
+        let mut script = Vec::from_slice(alloc, front)?;
+        script.resize(front.len() + brackets, b'(')?;
+        let (found, sink) = call(alloc, &["run"], &script, NEVER, NEVER)?;
+        assert_eq!(rt; sink.bytes(), text);
+        assert_eq!(rt; found, Status::Refused);
+    }
+    Ok(())
+}
+
+// Printing asks for no whole items.
+#[test]
+fn prints_the_canonical_spelling(rt: HostRuntime) -> Result<(), Fail> {
+    let table: [(&[u8], Status, &[u8]); 3] = [
+        (b"pts 01;print  a;", Status::Done, b"pts 1 ;\nprint a ;\n"),
+        (
+            b"pts 1; array a: u64[1] = fill 4;",
+            Status::Done,
+            b"pts 1 ;\narray a : u64 [ 1 ] = fill 4 ;\n",
+        ),
+        (b"pts 1; print", Status::Refused, b"refused syntax at 12\n"),
+    ];
+    for (script, status, text) in table {
+        let (found, sink) = call(rt.alloc(), &["print"], script, NEVER, NEVER)?;
         assert_eq!(rt; sink.bytes(), text);
         assert_eq!(rt; found, status);
     }
@@ -84,7 +288,7 @@ fn stops_at_a_fault(rt: HostRuntime) -> Result<(), Fail> {
         (NEVER, 1, Status::WriteFault, b"1: reduce 6\n"),
     ];
     for (failing_read, failing_write, status, text) in table {
-        let (found, sink) = run(rt.alloc(), TWO_LINES, failing_read, failing_write)?;
+        let (found, sink) = call(rt.alloc(), &["run"], TWO_LINES, failing_read, failing_write)?;
         assert_eq!(rt; sink.bytes(), text);
         assert_eq!(rt; found, status);
     }
@@ -101,24 +305,9 @@ fn a_script_has_at_most_so_many_bytes(rt: HostRuntime) -> Result<(), Fail> {
     for (len, status, text) in table {
         let mut script = Vec::from_slice(alloc, b"pts 1;")?;
         script.resize(len, b' ')?;
-        let (found, sink) = run(alloc, &script, NEVER, NEVER)?;
+        let (found, sink) = call(alloc, &["run"], &script, NEVER, NEVER)?;
         assert_eq!(rt; sink.bytes(), text);
         assert_eq!(rt; found, status);
-    }
-    Ok(())
-}
-
-// Each call of the source and of the sink would fail.
-#[test]
-fn other_words_read_and_write_nothing(rt: HostRuntime) -> Result<(), Fail> {
-    let alloc = rt.alloc();
-    let table: [&[&str]; 5] = [&[], &["print"], &["run", "run"], &["Run"], &["run "]];
-    for texts in table {
-        let mut source = MemorySource::new(ONE_LINE.to_vec(alloc)?, [0].to_vec(alloc)?);
-        let mut sink = MemorySink::new(alloc, 1000, [0].to_vec(alloc)?)?;
-        let found = run_words(alloc, &words(alloc, texts)?, &mut source, &mut sink);
-        assert_eq!(rt; found, Status::Usage);
-        assert!(rt; sink.bytes().is_empty());
     }
     Ok(())
 }

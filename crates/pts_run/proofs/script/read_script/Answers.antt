@@ -1,17 +1,13 @@
-use Rattle.std.proofs.Common.{List, ℕ, length, ap, subst, arith}
+use Rattle.std.proofs.Common.{◌≡◌, ◌≤◌, List, ℕ, length, ap, subst, arith}
 use Rattle.std.proofs.KnownBytes.{Consumes-whole}
-use Rattle.pts_syntax.specs.First.{IsScript}
-use Rattle.pts_run.specs.Output.{Accepts}
-use Rattle.pts_run.proofs.Ranges.{all_in_range}
+use Rattle.pts_syntax.specs.Syntax.{Explains}
+use Rattle.pts_run.specs.declared.script.ScriptFault.TheVariants.{Refused}
+use Rattle.pts_run.specs.Output.{Refuses, script_limit}
 use Rattle.pts_run.proofs.script.read_script.Goals as goal
 
-pub returns-in-Ok-parse_first-clause-accepts : goal.returns-in-Ok-parse_first-clause-accepts
-returns-in-Ok-parse_first-clause-accepts g c =
-    let script = c.in-Ok-parse_first.script in
-    Consumes-whole _ _ _ (λ (bytes : List ℕ). Accepts bytes script) c.in-Ok.ensures.whole c.in-Ok.ensures.end (record {
-      short = omega (arith, c.in-Ok.ensures.within, c.deref.ensures.len, ap length c.deref.ensures.value);
-      spells = subst (λ (bytes : List ℕ). IsScript bytes script) c.deref.ensures.value c.in-Ok-parse_first.ensures.script;
-    })
-
-pub returns-in-Ok-parse_first-clause-in_range : goal.returns-in-Ok-parse_first-clause-in_range
-returns-in-Ok-parse_first-clause-in_range g c = all_in_range c.deref.result.now c.in-Ok-parse_first.script c.in-Ok-parse_first.ensures.script
+pub returns-clause-refuses : goal.returns-clause-refuses
+returns-clause-refuses g c = λ command reason e.
+    let short : length c.in-Ok.bytes.items ≤ script_limit = omega (arith, c.in-Ok.ensures.within, c.deref.ensures.len, ap length c.deref.ensures.value) in
+    let explains : Explains c.in-Ok.bytes.items c.in-Err.fault = subst (λ (bytes : List ℕ). Explains bytes c.in-Err.fault) c.deref.ensures.value c.in-Err.ensures.fault in
+    let refused : c.fault_of.result ≡ Refused reason = cc in
+    Consumes-whole _ _ _ (λ (bytes : List ℕ). Refuses command bytes reason) c.in-Ok.ensures.whole c.in-Ok.ensures.end (c.fault_of.ensures.refuses command c.in-Ok.bytes.items reason short explains refused)
