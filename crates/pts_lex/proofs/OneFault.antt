@@ -1,16 +1,16 @@
 -- A text that is all tokens has no fault, and no text has two first faults.
-use Rattle.std.proofs.Common.{◌≡◌, ◌≢◌, ℕ, suc, ◌+◌, ◌^◌, ◌<◌, ◌≤◌, false, ltb, List, [], ◌∷◌, ◌++◌, length, take, drop, drop-cons, get_or, Some, None, Ok, Err, Option, Result, refl, sym, ap, subst, ◌∙◌, arith}
+use Rattle.std.proofs.Common.{◌≡◌, ℕ, suc, ◌^◌, ◌≤◌, false, List, [], ◌∷◌, ◌++◌, length, take, drop, drop-cons, get_or, Some, None, Ok, Err, Option, Result, refl, sym, ap, ◌∙◌, arith}
 use Rattle.std.proofs.lemmas.Bool.{ne_eqb, le-ltb}
 use Rattle.std.proofs.lemmas.List.{length-take, take-append-drop}
 use Rattle.pts_lex.specs.declared.token.LexFault.{LexFault}
 use Rattle.pts_lex.specs.declared.token.LexFault.TheVariants as faults
 use Rattle.pts_lex.specs.declared.token.Token.{Token}
 use Rattle.pts_lex.specs.declared.token.TokenKind.{TokenKind}
-use Rattle.pts_lex.specs.Lexical.{IsNumeral, IsLexeme, IsSpelling, IsBlank, IsStrayByte, IsGreatNumber, IsLexFault, Cuts, LeadTo, Lexes, IsFirstFault, moved_fault, number_of, hash}
-use Rattle.pts_lex.specs.Scanning.{blank_len, lexeme_len, scan, scan_at, token_of, kind_of}
+use Rattle.pts_lex.specs.Lexical.{IsNumeral, IsLexeme, IsSpelling, IsBlank, IsStrayByte, IsGreatNumber, IsLexFault, Cuts, LeadTo, Lexes, IsFirstFault, number_of, hash}
+use Rattle.pts_lex.specs.Scanning.{blank_len, lexeme_len, scan, token_of, kind_of}
 use Rattle.pts_lex.proofs.Gaps.{IsSolid, gap_before_solid}
 use Rattle.pts_lex.proofs.Lexemes.{First, first, found, none}
-use Rattle.pts_lex.proofs.Scans.{scan_from, scan_cut, scan_blank, AreSame, one_cut}
+use Rattle.pts_lex.proofs.Scans.{scan_from, scan_cut, scan_blank, one_cut}
 use Rattle.pts_lex.proofs.Spellings.{spelled_kind, numeral_kind}
 
 -- ---- the scanner answers each fault that there is
