@@ -59,7 +59,7 @@ digit_not_letter b h =
 apart : (p : ℕ → Bool) (b v : ℕ) → p b ≡ true → p v ≡ false → eqb b v ≡ false
 apart p b v holds fails = ne_eqb b v (λ e. false≢true (sym fails ∙ subst (λ (n : ℕ). p n ≡ true) e holds))
 
-solid_by : (p : ℕ → Bool) (b : ℕ) → p b ≡ true → p 32 ≡ false → p 9 ≡ false → p 10 ≡ false → p 13 ≡ false → p 35 ≡ false → IsSolid b
+pub solid_by : (p : ℕ → Bool) (b : ℕ) → p b ≡ true → p 32 ≡ false → p 9 ≡ false → p 10 ≡ false → p 13 ≡ false → p 35 ≡ false → IsSolid b
 solid_by p b holds space tab feed return sharp = record {
   not_white = or_from _ _ (or_from _ _ (or_from _ _ (apart p b 32 holds space) (apart p b 9 holds tab)) (apart p b 10 holds feed)) (apart p b 13 holds return);
   not_hash = apart p b 35 holds sharp;
@@ -121,7 +121,7 @@ pass_through p (x ∷ xs) ys all none =
     let parts = and_parts (p x) (list_all p xs) all in
     rw parts.0 (omega (arith, pass_through p xs ys parts.1 none))
 
-list_all_middle : (p : ℕ → Bool) (xs : List ℕ) (c : ℕ) (cs : List ℕ) → list_all p (xs ++ c ∷ cs) ≡ true → p c ≡ true
+pub list_all_middle : (p : ℕ → Bool) (xs : List ℕ) (c : ℕ) (cs : List ℕ) → list_all p (xs ++ c ∷ cs) ≡ true → p c ≡ true
 list_all_middle p [] c cs all = (and_parts (p c) (list_all p cs) all).0
 list_all_middle p (x ∷ xs) c cs all = list_all_middle p xs c cs (and_parts (p x) (list_all p (xs ++ c ∷ cs)) all).1
 

@@ -4,3 +4,5 @@ pub mod Numerals
 pub mod Scans
 pub mod Spellings
 pub mod TokenLists
+pub mod LexemeEnds
+pub mod OneFault

@@ -21,7 +21,7 @@ use Rattle.pts_lex.proofs.Lexemes.{IsLongest, Found, First, first, lexeme_len_is
 abbrev longest_of : (bytes gap text rest : List ℕ) → Cuts bytes gap text rest → IsLongest text rest
 longest_of bytes gap text rest c = record { no_longer = c.longest }
 
-scan_from : (bytes : List ℕ) (n : ℕ) → blank_len false bytes ≡ n → scan bytes ≡ scan_at n (drop n bytes)
+pub scan_from : (bytes : List ℕ) (n : ℕ) → blank_len false bytes ≡ n → scan bytes ≡ scan_at n (drop n bytes)
 unfolding scan
 scan_from bytes n e = ap (λ (k : ℕ). scan_at k (drop k bytes)) e
 

@@ -17,7 +17,7 @@ identifier_kind : (b : ℕ) (bs : List ℕ) → IsIdentifier (b ∷ bs) → kind
 unfolding kind_of
 identifier_kind b bs i = rw i.0 refl
 
-numeral_kind : (b : ℕ) (bs : List ℕ) → IsNumeral (b ∷ bs)
+pub numeral_kind : (b : ℕ) (bs : List ℕ) → IsNumeral (b ∷ bs)
     → kind_of (b ∷ bs) ≡ cond (ltb (number_of (b ∷ bs)) (2 ^ 64)) (some (kinds.Number (number_of (b ∷ bs)))) None
 unfolding kind_of
 numeral_kind b bs i = rw (digit_not_letter b i.0, i.0) refl
