@@ -6,3 +6,5 @@ pub mod SayableSigns
 pub mod WrittenSigns
 pub mod CanonicalTokens
 pub mod OneAnswer
+pub mod OneFault
+pub mod ReadBack
