@@ -63,7 +63,7 @@ goes_on_more before [] made i e same is whole =
 goes_on_more before (j ∷ items) made i e (f, is_j, whole_j, goes) is whole = (f, is_j, whole_j, goes_on_more (with_entry before f) items made i e goes is whole)
 
 -- what items make lies behind what the first of them make
-parts : (before : First) (items more : List Item) (made : First) → GoesOn before (items ++ more) made → (mid : First) × GoesOn before items mid × GoesOn mid more made
+pub parts : (before : First) (items more : List Item) (made : First) → GoesOn before (items ++ more) made → (mid : First) × GoesOn before items mid × GoesOn mid more made
 parts before [] more made goes = (before, refl, goes)
 parts before (i ∷ items) more made (e, is, whole, goes) =
     let rest = parts (with_entry before e) items more made goes in

@@ -1,6 +1,7 @@
 pub mod CommandLines
 pub mod Endings
 pub mod Fronts
+pub mod Exclusions
 pub mod Places
 pub mod Ranges
 pub mod Runs

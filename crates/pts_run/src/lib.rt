@@ -5,6 +5,7 @@ mod answer;
 mod draft;
 mod first;
 mod forms;
+mod laws;
 mod lines;
 mod refusal;
 mod run;
@@ -17,6 +18,8 @@ mod top;
 mod words;
 
 pub use first::{First, FirstArray, FirstFault, FirstStatement, as_first, one_first};
+pub use laws::{one_reason, takes_or_refuses};
+pub use refusal::Refusal;
 pub use status::Status;
 pub use top::run_words;
 pub use words::{Command, read_words};
