@@ -26,7 +26,8 @@ order zero (suc b) = inl (omega arith)
 order (suc a) zero = inr (inl (omega arith))
 order (suc a) (suc b) = elim (order a b) [
   | inl h ↦ inl (omega (arith, h))
-  | inr other ↦ elim other [ inl h ↦ inr (inl (omega (arith, h))) | inr e ↦ inr (inr (ap suc e)) ] ]
+  | inr other ↦ elim other [ inl h ↦ inr (inl (omega (arith, h))) | inr e ↦ inr (inr (ap suc e)) ]
+]
 
 take_front : (ts : List Sign) (low high : ℕ) → low ≤ high → (back : List Sign) × (take high ts ≡ take low ts ++ back)
 take_front ts zero high h = (take high ts, refl)
@@ -57,7 +58,8 @@ unexpected_before ts one other u v h =
 same_unexpected : (ts : List Sign) (one other : ℕ) → IsUnexpected ts one → IsUnexpected ts other → one ≡ other
 same_unexpected ts one other u v = elim (order one other) [
   | inl less ↦ absurd (unexpected_before ts one other u v less)
-  | inr rest ↦ elim rest [ inl more ↦ absurd (unexpected_before ts other one v u more) | inr e ↦ e ] ]
+  | inr rest ↦ elim rest [ inl more ↦ absurd (unexpected_before ts other one v u more) | inr e ↦ e ]
+]
 
 same_nesting : (ts : List Sign) (one other : ℕ) → IsNesting ts one → IsNesting ts other → one ≡ other
 same_nesting ts one other n p = let e : Some one ≡ Some other = sym n.beyond_is ∙ p.beyond_is in cc
