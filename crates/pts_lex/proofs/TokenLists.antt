@@ -1,15 +1,15 @@
 -- Tokens one after another: a list goes on by the next, and a text has at most one.
-use Rattle.std.proofs.Common.{◌≡◌, ◌≢◌, ℕ, zero, suc, ◌+◌, ◌-◌, ◌^◌, ◌<◌, ◌≤◌, Bool, true, false, List, [], ◌∷◌, ◌++◌, length, take, drop, Some, None, Ok, Err, Option, Result, refl, sym, ap, subst, ◌∙◌, inl, inr, arith, append_assoc, length-append, length-drop}
+use Rattle.std.proofs.Common.{◌≡◌, ℕ, ◌+◌, ◌-◌, ◌^◌, ◌<◌, ◌≤◌, List, [], ◌∷◌, ◌++◌, length, take, drop, Some, None, Ok, refl, sym, ap, ◌∙◌, arith, length-drop}
 use Rattle.std.specs.List.{slice_range}
-use Rattle.std.proofs.lemmas.List.{drop-drop, length-take, drop_at, take_at}
+use Rattle.std.proofs.lemmas.List.{drop-drop, length-take}
 use Rattle.pts_lex.specs.declared.token.LexFault.{LexFault}
 use Rattle.pts_lex.specs.declared.token.LexFault.TheVariants as faults
 use Rattle.pts_lex.specs.declared.token.Token.{Token}
 use Rattle.pts_lex.specs.declared.token.TokenKind.{TokenKind}
-use Rattle.pts_lex.specs.Lexical.{IsSpelling, IsBlank, IsFirstToken, IsLexFault, Cuts, LeadTo, Lexes, IsFirstFault, Explains, moved_fault, FitsBehind}
-use Rattle.pts_lex.specs.Scanning.{scan, token_of, kind_of}
+use Rattle.pts_lex.specs.Lexical.{IsSpelling, IsBlank, IsFirstToken, IsLexFault, Cuts, LeadTo, Lexes, Explains, moved_fault, FitsBehind}
+use Rattle.pts_lex.specs.Scanning.{scan, token_of}
 use Rattle.pts_lex.proofs.Lexemes.{no_empty_lexeme}
-use Rattle.pts_lex.proofs.Scans.{scan_cut, scan_blank, AreSame, one_cut}
+use Rattle.pts_lex.proofs.Scans.{scan_cut, scan_blank, one_cut}
 use Rattle.pts_lex.proofs.Spellings.{spelled_kind}
 
 -- a token of a text that begins at `at`

@@ -1,5 +1,5 @@
 -- Reading what a part spells gives the part back and the signs behind it, or meets a bracket too many: the steps of this.
-use Rattle.std.proofs.Common.{◌≡◌, ℕ, zero, suc, ◌+◌, ◌≤◌, Bool, true, false, ◌&&◌, if◌then◌else◌, List, [], ◌∷◌, length, Result, Ok, Err, refl, sym, subst, arith, ◌∙◌, eqb, rules, true≢false}
+use Rattle.std.proofs.Common.{◌≡◌, ℕ, zero, suc, ◌+◌, ◌≤◌, Bool, true, false, if◌then◌else◌, List, [], ◌∷◌, length, Result, Ok, Err, refl, sym, arith, ◌∙◌, eqb, rules, true≢false}
 use Rattle.std.proofs.Math.Dec.{eqb_refl}
 use Rattle.std.specs.List.{list_all}
 use Rattle.pts_tree.specs.declared.mark.Mark as mark

@@ -1,7 +1,7 @@
 -- Signs begin a row where they are whole spellings of its first parts and then begin the next one.
-use Rattle.std.proofs.Common.{◌≡◌, ◌↔◌, Bool, true, false, List, [], ◌∷◌, ◌++◌, refl, sym, ap, subst, ◌∙◌, append_assoc}
+use Rattle.std.proofs.Common.{◌≡◌, ◌↔◌, true, false, List, [], ◌∷◌, ◌++◌, refl, sym, ap, subst, ◌∙◌, append_assoc}
 use Rattle.pts_tree.specs.Signs.{Sign}
-use Rattle.pts_tree.specs.Grammar.{Part, Row, rows, Matches, whole, ends, Begins}
+use Rattle.pts_tree.specs.Grammar.{Part, Row, rows, Matches, whole, ends}
 use Rattle.pts_parse.specs.Laws.{BeginsInParts, in_part, all_parts}
 use Rattle.pts_parse.proofs.Fronts.{Split, in_two, in_first, split, join, whole_begins}
 

@@ -1,10 +1,9 @@
 -- Task blocks and their statements: each is read back from what it spells.
-use Rattle.std.proofs.Common.{◌≡◌, ℕ, zero, suc, Bool, true, false, ◌&&◌, List, [], ◌∷◌, Result, Ok, refl, sym, subst, map, arith, true≢false}
+use Rattle.std.proofs.Common.{◌≡◌, ℕ, zero, suc, Bool, true, false, List, [], ◌∷◌, Ok, refl, sym, subst, map, true≢false}
 use Rattle.std.specs.List.{list_all}
 use Rattle.pts_tree.specs.declared.mark.Mark.TheVariants as m
-use Rattle.pts_tree.specs.declared.sign.SignKind.{SignKind}
 use Rattle.pts_tree.specs.declared.sign.SignKind.TheVariants as k
-use Rattle.pts_tree.specs.Signs.{Sign, Mark, Name, Number}
+use Rattle.pts_tree.specs.Signs.{Sign, Mark, Number}
 use Rattle.pts_tree.specs.declared.sum.Cell.{Cell}
 use Rattle.pts_tree.specs.declared.expr.Expr.{Expr}
 use Rattle.pts_tree.specs.declared.call.Call.{Call}
@@ -15,7 +14,7 @@ use Rattle.pts_tree.specs.declared.block.TaskStmt.{TaskStmt}
 use Rattle.pts_tree.specs.declared.block.TaskStmt.TheOpen.{TaskStmt-F, Block-F}
 use Rattle.pts_tree.specs.declared.block.TaskStmt.TheVariants as t
 use Rattle.pts_tree.specs.declared.block.TaskStmt.TheViews.{roll-TaskStmt}
-use Rattle.pts_tree.specs.declared.block.TaskStmt.TheFolds.{map-TaskStmt, map-Block, ind-TaskStmt, ind-Block}
+use Rattle.pts_tree.specs.declared.block.TaskStmt.TheFolds.{map-TaskStmt, map-Block, ind-Block}
 use Rattle.pts_tree.specs.declared.block.Block.{Block, roll-Block}
 use Rattle.pts_tree.specs.Spelling as spelling
 use Rattle.pts_tree.specs.Spelling.{Text, each, call_allowed}
@@ -23,11 +22,11 @@ use Rattle.pts_tree.specs.Expressions.{expr_allowed}
 use Rattle.pts_tree.specs.Statements as stated
 use Rattle.pts_tree.specs.Statements.{Task, task, task_step, task_allowed, run_allowed, whole_block, tstmt, task_body, loop_allowed}
 use Rattle.pts_tree.proofs.Tasks.{task-Run, task-Wait, task-Throw, task-Assign, task-Call, task-Loop, task-Block, block-is, text-Run, text-Wait, text-Throw, text-Assign, text-Call, text-Loop, text-Block, block_text}
-use Rattle.pts_parse.specs.Reading.{Read, Parser, ◌>>=◌, ahead, past, unexpected, each_of}
+use Rattle.pts_parse.specs.Reading.{Parser, ◌>>=◌, ahead, past, each_of}
 use Rattle.pts_parse.specs.CallReading.{call}
 use Rattle.pts_parse.specs.BlockReading.{Inside, throw_stmt, assign_cell, braced_tasks, block_of, rstmt_of, tstmt_of, task_of, sees_call, sees_task, task_list, inner_tasks, block}
 use Rattle.pts_parse.proofs.KindFacts.{and_both}
-use Rattle.pts_parse.proofs.Again.{Gets, done, next, behind_sign, expect_again, open_again, number_again, Each, none, one, each_to, Anything, Repeats, each_again}
+use Rattle.pts_parse.proofs.Again.{Gets, done, next, behind_sign, expect_again, open_again, number_again, Each, none, one, each_to, Anything, each_again}
 use Rattle.pts_parse.proofs.SumsAgain.{cell_again}
 use Rattle.pts_parse.proofs.CallsAgain.{call_again}
 use Rattle.pts_parse.proofs.LoopsAgain.{value_again, loop_again}

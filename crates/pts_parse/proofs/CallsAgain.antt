@@ -1,9 +1,8 @@
 -- Calls of algorithms: each is read back from what it spells.
-use Rattle.std.proofs.Common.{◌≡◌, ℕ, Bool, true, false, List, [], ◌∷◌, Option, Some, None, Result, Ok, refl, sym, arith, true≢false}
+use Rattle.std.proofs.Common.{◌≡◌, ℕ, Bool, true, false, List, ◌∷◌, Option, Some, None, refl, sym, arith, true≢false}
 use Rattle.pts_types.specs.declared.operation.Policy.{Policy}
 use Rattle.pts_types.specs.declared.operation.Policy.TheVariants as policies
 use Rattle.pts_types.specs.declared.operation.ScalarOp.TheVariants as ops
-use Rattle.pts_tree.specs.declared.mark.Mark as mark
 use Rattle.pts_tree.specs.declared.mark.Mark.TheVariants as m
 use Rattle.pts_tree.specs.declared.sign.SignKind.{SignKind}
 use Rattle.pts_tree.specs.declared.sign.SignKind.TheVariants as k
@@ -22,7 +21,7 @@ use Rattle.pts_tree.specs.Spelling as spelling
 use Rattle.pts_tree.specs.Spelling.{optional, op_allowed, call_allowed}
 use Rattle.pts_parse.specs.Reading.{ahead}
 use Rattle.pts_parse.specs.SumReading.{goes_on}
-use Rattle.pts_parse.specs.CallReading.{policy, op, second, target, init, optional_init, store, head, start, sources, named_end, stored_end, for_each, transform, search, reduce, transform_reduce, scan_init, scan_function, scan_ranges, scan_end, scan, call}
+use Rattle.pts_parse.specs.CallReading.{policy, op, second, target, init, optional_init, store, head, start, sources, named_end, stored_end, for_each, transform, search, reduce, transform_reduce, scan_ranges, scan_end, scan, call}
 use Rattle.pts_parse.proofs.KindFacts.{and_both}
 use Rattle.pts_parse.proofs.Again.{Gets, got, done, next, behind_sign, at_all, otherwise, in_case, same_mark, expect_again, name_again}
 use Rattle.pts_parse.proofs.SumsAgain.{val_again, range_again, cell_again}

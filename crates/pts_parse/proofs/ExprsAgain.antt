@@ -1,5 +1,5 @@
 -- Expressions: each is read back from what it spells, at its level and at each higher one.
-use Rattle.std.proofs.Common.{◌≡◌, ℕ, zero, suc, ◌<◌, ◌≤◌, Bool, true, false, ◌&&◌, List, [], ◌∷◌, Option, Some, None, Result, Ok, refl, sym, ap, subst, ◌∙◌, map, arith, true≢false}
+use Rattle.std.proofs.Common.{◌≡◌, ℕ, suc, ◌<◌, ◌≤◌, Bool, true, false, ◌&&◌, List, [], ◌∷◌, Some, Ok, refl, sym, ap, subst, ◌∙◌, map, arith, true≢false}
 use Rattle.std.specs.Prelude.{nat_le, nat_lt, ◌==◌, is_some}
 use Rattle.std.specs.List.{list_all}
 use Rattle.std.proofs.lemmas.Bool.{leb-true, eqb-true}
@@ -9,17 +9,16 @@ use Rattle.pts_types.specs.declared.operation.ScalarOp.{ScalarOp}
 use Rattle.pts_types.specs.declared.operation.ScalarOp.TheVariants as ops
 use Rattle.pts_tree.specs.declared.mark.Mark as mark
 use Rattle.pts_tree.specs.declared.mark.Mark.TheVariants as m
-use Rattle.pts_tree.specs.declared.sign.SignKind.{SignKind}
 use Rattle.pts_tree.specs.declared.sign.SignKind.TheVariants as k
 use Rattle.pts_tree.specs.Marks.{place}
 use Rattle.pts_tree.specs.Grammar.{same}
-use Rattle.pts_tree.specs.Signs.{Sign, Mark, Name, Number}
+use Rattle.pts_tree.specs.Signs.{Sign, Mark, Number}
 use Rattle.pts_tree.specs.declared.expr.Expr.{Expr}
-use Rattle.pts_tree.specs.declared.expr.Expr.TheOpen.{Expr-F, ChainPart-F}
+use Rattle.pts_tree.specs.declared.expr.Expr.TheOpen.{Expr-F}
 use Rattle.pts_tree.specs.declared.expr.Expr.TheViews.{roll-Expr}
 use Rattle.pts_tree.specs.declared.expr.Expr.TheVariants as e
 use Rattle.pts_tree.specs.declared.expr.Expr.TheFolds.{map-Expr, ind-Expr}
-use Rattle.pts_tree.specs.declared.expr.ChainPart.{ChainPart, roll-ChainPart}
+use Rattle.pts_tree.specs.declared.expr.ChainPart.{ChainPart}
 use Rattle.pts_tree.specs.Spelling as spelling
 use Rattle.pts_tree.specs.Spelling.{Text, each, separated, optional, word, is_filled, has_two}
 use Rattle.pts_tree.specs.Expressions as spelled
@@ -29,7 +28,7 @@ use Rattle.pts_parse.specs.declared.expressions.Level.{Level}
 use Rattle.pts_parse.specs.declared.expressions.Level.TheVariants as levels
 use Rattle.pts_parse.specs.declared.expressions.Connective.{Connective}
 use Rattle.pts_parse.specs.declared.expressions.Connective.TheVariants as connectives
-use Rattle.pts_parse.specs.Reading.{Read, Parser, ahead}
+use Rattle.pts_parse.specs.Reading.{Read, ahead}
 use Rattle.pts_parse.specs.ExprReading.{enclosed, next_argument, sees_comma, next_arguments, arguments, function_call, element, name_rest, convert, paren, prim_by, prim, una, operator, sees_operator, chain_part_by, chain_part, chain_parts, chain_of, operand, chain, comparison, compared_by, compared, connective_mark, sees_connective, next_member, next_members, joined, members_of, member, members, branch, if_else, expr_of, expr, inner}
 use Rattle.pts_parse.proofs.KindFacts.{and_both}
 use Rattle.pts_parse.proofs.Again.{Gets, got, done, next, behind_sign, in_case, same_mark, expect_again, open_again, name_again, number_again, by_number, Each, none, one, each_to, Repeats, each_again}

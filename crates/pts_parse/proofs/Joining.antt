@@ -1,11 +1,11 @@
 -- A chain and joined members, from what was read of them.
-use Rattle.std.proofs.Common.{◌≡◌, ℕ, List, ◌∷◌, Ok, Err, Result, refl, sym}
+use Rattle.std.proofs.Common.{◌≡◌, List, Ok, refl}
 use Rattle.pts_tree.specs.Signs.{Sign}
 use Rattle.pts_tree.specs.declared.expr.Expr.{Expr}
 use Rattle.pts_tree.specs.declared.expr.ChainPart.{ChainPart}
 use Rattle.pts_parse.specs.declared.expressions.Level.{Level}
 use Rattle.pts_parse.specs.declared.expressions.Connective.{Connective}
-use Rattle.pts_parse.specs.Reading.{Parser, Read, and_then}
+use Rattle.pts_parse.specs.Reading.{Parser, and_then}
 use Rattle.pts_parse.specs.ExprReading.{chain_parts, chained, chain_of, next_members, joined, members_of}
 
 pub chain_read : (level : Level) (operand : Parser Expr) (ts us vs : List Sign) (x y : Expr) (parts : List ChainPart)

@@ -1,5 +1,5 @@
 -- Levels of expressions: how far a sign reaches among them, and how what belongs to a level is read at a higher one.
-use Rattle.std.proofs.Common.{◌≡◌, ℕ, zero, suc, ◌<◌, ◌≤◌, Bool, true, false, List, [], ◌∷◌, Option, Some, None, Result, Ok, refl, sym, subst, arith}
+use Rattle.std.proofs.Common.{◌≡◌, ℕ, zero, suc, ◌<◌, ◌≤◌, false, List, None, Ok, refl, sym, subst, arith}
 use Rattle.std.proofs.Math.Decide.{le_ind}
 use Rattle.pts_tree.specs.declared.mark.Mark.TheVariants as m
 use Rattle.pts_tree.specs.declared.sign.SignKind.{SignKind}
@@ -14,8 +14,7 @@ use Rattle.pts_parse.specs.declared.expressions.Level.{Level}
 use Rattle.pts_parse.specs.declared.expressions.Level.TheVariants as levels
 use Rattle.pts_parse.specs.declared.expressions.Connective.{Connective}
 use Rattle.pts_parse.specs.declared.expressions.Connective.TheVariants as connectives
-use Rattle.pts_parse.specs.declared.reader.Stop.{Stop}
-use Rattle.pts_parse.specs.Reading.{Read, Parser, ahead}
+use Rattle.pts_parse.specs.Reading.{Parser, ahead}
 use Rattle.pts_parse.specs.ExprReading.{name_rest_by, prim, una_by, una, operator, sees_operator, chain_part, chain_parts, chain_of, chain, comparison, compared_by, compared, sees_connective, next_member, next_members, members_of, member, members, expr_of, expr, inner}
 use Rattle.pts_parse.proofs.Rooms.{expr_is}
 use Rattle.pts_parse.proofs.Again.{Gets, done, next, otherwise, none_again}

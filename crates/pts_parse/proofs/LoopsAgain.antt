@@ -1,5 +1,5 @@
 -- Loops, their clauses and the statements of their bodies: each is read back from what it spells.
-use Rattle.std.proofs.Common.{◌≡◌, ℕ, zero, suc, ◌<◌, Bool, true, false, ◌&&◌, List, [], ◌∷◌, Option, Some, None, Result, Ok, refl, sym, subst, map, arith, true≢false}
+use Rattle.std.proofs.Common.{◌≡◌, ℕ, zero, suc, Bool, true, false, ◌&&◌, List, [], ◌∷◌, Option, Some, None, refl, sym, subst, map, arith, true≢false}
 use Rattle.std.specs.Prelude.{is_some}
 use Rattle.std.specs.List.{list_all}
 use Rattle.pts_types.specs.declared.operation.Policy.{Policy}
@@ -7,7 +7,6 @@ use Rattle.pts_types.specs.declared.operation.ScalarOp.{ScalarOp}
 use Rattle.pts_types.specs.declared.operation.ScalarOp.TheVariants as ops
 use Rattle.pts_tree.specs.declared.mark.Mark as mark
 use Rattle.pts_tree.specs.declared.mark.Mark.TheVariants as m
-use Rattle.pts_tree.specs.declared.sign.SignKind.{SignKind}
 use Rattle.pts_tree.specs.declared.sign.SignKind.TheVariants as k
 use Rattle.pts_tree.specs.Marks.{place}
 use Rattle.pts_tree.specs.Grammar.{same}
@@ -39,14 +38,13 @@ use Rattle.pts_tree.specs.Expressions.{expr_allowed}
 use Rattle.pts_tree.specs.Statements as stated
 use Rattle.pts_tree.specs.Statements.{Phrase, phrase, phrase_allowed, bstmt, bstmt_allowed, body, upd_mark, clause_allowed, loop_allowed}
 use Rattle.pts_tree.proofs.Phrases.{phrase-Assign, phrase-Let, phrase-Combine, phrase-VecOff, phrase-Ordered, phrase-If, text-Assign, text-Let, text-Combine, text-VecOff, text-Ordered, text-If}
-use Rattle.pts_parse.specs.Reading.{Read, Parser, ahead, past, unexpected, each_of}
+use Rattle.pts_parse.specs.Reading.{ahead, past, each_of}
 use Rattle.pts_parse.specs.SumReading.{goes_on}
-use Rattle.pts_parse.specs.LoopReading.{step, identity, view, reduce_clause, initial_sum, initial_behind, initial_by, initial, induct_head, induct_clause, clause, sees_clause, clauses_of, bracketed, place as place_of, value, assign, combine, name_stmt, let_name, braced, else_part, if_stmt, vec_off, upd_by, upd, ordered, bstmt_by, bstmt_of, sees_bstmt, bstmts, inner_bstmts, body as body_of, loop_head, bounds, loop_behind}
+use Rattle.pts_parse.specs.LoopReading.{step, identity, view, reduce_clause, initial_sum, initial_behind, initial_by, initial, induct_head, induct_clause, clause, sees_clause, clauses_of, bracketed, place as place_of, value, assign, combine, name_stmt, let_name, braced, else_part, if_stmt, vec_off, upd, ordered, bstmt_of, sees_bstmt, bstmts, inner_bstmts, body as body_of, loop_head, bounds, loop_behind}
 use Rattle.pts_parse.proofs.KindFacts.{and_both}
-use Rattle.pts_parse.proofs.Again.{Gets, got, done, next, behind_sign, at_all, in_case, otherwise, same_mark, expect_again, open_again, name_again, number_again, by_number, Each, none, one, each_passed, each_to, Repeats, each_again}
-use Rattle.pts_parse.proofs.SumsAgain.{atom_again, sum_behind_again, sum_again, sum_begins, val_again, index_again, cell_again, typed_again}
+use Rattle.pts_parse.proofs.Again.{Gets, got, done, next, behind_sign, at_all, in_case, otherwise, same_mark, expect_again, open_again, name_again, number_again, by_number, Each, none, one, each_passed, each_to, each_again}
+use Rattle.pts_parse.proofs.SumsAgain.{atom_again, sum_behind_again, sum_again, val_again, index_again, cell_again, typed_again}
 use Rattle.pts_parse.proofs.CallsAgain.{policy_again, op_again}
-use Rattle.pts_parse.proofs.LevelsAgain.{reach}
 use Rattle.pts_parse.proofs.ExprsAgain.{enclosed_again, expr_fits, expr_again}
 
 -- ---- clauses

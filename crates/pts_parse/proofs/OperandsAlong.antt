@@ -8,9 +8,8 @@ use Rattle.pts_tree.specs.declared.mark.Mark.TheVariants as m
 use Rattle.pts_tree.specs.declared.sign.SignKind.{SignKind}
 use Rattle.pts_tree.specs.declared.sign.SignKind.TheVariants as k
 use Rattle.pts_tree.specs.declared.expr.Expr.{Expr}
-use Rattle.pts_tree.specs.declared.expr.Expr.TheVariants as e
 use Rattle.pts_tree.specs.Marks.{place}
-use Rattle.pts_tree.specs.Signs.{Sign, Mark, Name, Number}
+use Rattle.pts_tree.specs.Signs.{Sign, Mark, Name}
 use Rattle.pts_tree.specs.Spelling as spelling
 use Rattle.pts_tree.specs.Spelling.{Text, each, separated, is_filled}
 use Rattle.pts_tree.specs.Expressions as exprs

@@ -1,13 +1,10 @@
 -- How an expression is read with room for more brackets, and inside of one more.
-use Rattle.std.proofs.Common.{◌≡◌, ℕ, zero, suc, Bool, ◌-◌, ◌<◌, List, refl, ap, ◌∙◌, arith}
+use Rattle.std.proofs.Common.{◌≡◌, ℕ, zero, suc, Bool, ◌-◌, ◌<◌, List, refl, arith}
 use Rattle.pts_tree.specs.Signs.{Sign}
-use Rattle.pts_tree.specs.declared.expr.Expr.{Expr}
 use Rattle.pts_parse.specs.declared.expressions.Level.{Level}
 use Rattle.pts_parse.specs.declared.expressions.Level.TheVariants as levels
 use Rattle.pts_parse.specs.declared.expressions.Connective.{Connective}
 use Rattle.pts_parse.specs.declared.expressions.Connective.TheVariants as connectives
-use Rattle.pts_parse.specs.Reading.{Parser}
-use Rattle.pts_tree.specs.declared.loops.BodyStmt.{BodyStmt}
 use Rattle.pts_parse.specs.Reading.{each_of}
 use Rattle.pts_parse.specs.ExprReading.{expr, expr_of, inner}
 use Rattle.pts_parse.specs.BlockReading.{sees_task, task_of, task_list, inner_tasks}

@@ -1,5 +1,5 @@
 -- Two words or symbols are compared by their places.
-use Rattle.std.proofs.Common.{◌≡◌, Bool, eqb, refl, ap, ◌∙◌, sym}
+use Rattle.std.proofs.Common.{◌≡◌, eqb, refl, ap, ◌∙◌}
 use denote.Enum.Bare.{sameb}
 use denote.Enum.Declared.{tag_of}
 use Rattle.pts_tree.specs.contracts.mark.Mark.{the_type}

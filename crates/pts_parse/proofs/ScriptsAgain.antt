@@ -1,21 +1,16 @@
 -- Declarations, items and scripts: each is read back from what it spells.
-use Rattle.std.proofs.Common.{◌≡◌, ℕ, ◌⊎◌, inl, inr, Bool, true, false, ◌&&◌, List, [], ◌∷◌, length, Result, Ok, Err, refl, sym, ap, subst, ◌∙◌, arith, true≢false}
+use Rattle.std.proofs.Common.{◌≡◌, ℕ, ◌⊎◌, inl, inr, true, false, ◌&&◌, List, [], ◌∷◌, Result, Ok, Err, refl, sym, subst, arith, true≢false}
 use Rattle.std.specs.Prelude.{◌==◌}
 use Rattle.std.specs.List.{list_all}
 use Rattle.std.proofs.lemmas.Bool.{eqb-true}
 use Rattle.pts_types.specs.declared.value.Kind.{Kind}
-use Rattle.pts_tree.specs.declared.mark.Mark as mark
 use Rattle.pts_tree.specs.declared.mark.Mark.TheVariants as m
-use Rattle.pts_tree.specs.declared.sign.SignKind.{SignKind}
 use Rattle.pts_tree.specs.declared.sign.SignKind.TheVariants as k
 use Rattle.pts_tree.specs.Marks.{place}
 use Rattle.pts_tree.specs.Signs.{Sign, Mark, Name, Number}
-use Rattle.pts_tree.specs.declared.sum.Sum.{Sum}
 use Rattle.pts_tree.specs.declared.sum.Val.{Val}
-use Rattle.pts_tree.specs.declared.call.Call.{Call}
 use Rattle.pts_tree.specs.declared.call.CallForm.{CallForm}
 use Rattle.pts_tree.specs.declared.call.CallForm.TheVariants as forms
-use Rattle.pts_tree.specs.declared.loops.Loop.{Loop}
 use Rattle.pts_tree.specs.declared.block.Block.{Block}
 use Rattle.pts_tree.specs.declared.script.ConstDecl.{ConstDecl}
 use Rattle.pts_tree.specs.declared.script.ArrayDecl.{ArrayDecl}
@@ -36,14 +31,14 @@ use Rattle.pts_tree.specs.Scripts.{Spells, start_allowed, item_allowed, script_a
 use Rattle.pts_tree.proofs.Tasks.{block_text}
 use Rattle.pts_parse.specs.declared.reader.Stop.{Stop}
 use Rattle.pts_parse.specs.declared.reader.Stop.TheVariants as stops
-use Rattle.pts_parse.specs.Reading.{Read, Parser, ◌>>=◌, ahead, past}
+use Rattle.pts_parse.specs.Reading.{Parser, ◌>>=◌, ahead, past}
 use Rattle.pts_parse.specs.SumReading.{goes_on}
 use Rattle.pts_parse.specs.CallReading.{call}
 use Rattle.pts_parse.specs.ExprReading.{sees_comma}
 use Rattle.pts_parse.specs.BlockReading.{sees_call}
 use Rattle.pts_parse.specs.ScriptReading.{const_decl, next_val, next_vals, vals, iota, start, start_part, array_decl, param, next_param, next_params, params, signature, result_kind, function_decl, print, item, sees_item, item_list, version, header, finish, script}
 use Rattle.pts_parse.proofs.KindFacts.{and_both}
-use Rattle.pts_parse.proofs.Again.{Gets, got, nested, done, next, behind_sign, in_case, expect_again, open_again, name_again, Each, each_so, each_passed, Anything, Repeats, each_again}
+use Rattle.pts_parse.proofs.Again.{Gets, got, nested, done, next, behind_sign, expect_again, open_again, name_again, each_so, each_passed, Anything, Repeats, each_again}
 use Rattle.pts_parse.proofs.SumsAgain.{sum_again, val_again, index_again, kind_again, typed_again}
 use Rattle.pts_parse.proofs.CallsAgain.{call_again}
 use Rattle.pts_parse.proofs.LoopsAgain.{value_again, loop_again}

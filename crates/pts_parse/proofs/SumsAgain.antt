@@ -1,5 +1,5 @@
 -- Sums and what they measure: each is read back from what it spells.
-use Rattle.std.proofs.Common.{◌≡◌, ℕ, Bool, true, false, List, [], ◌∷◌, Result, Ok, refl, sym, ◌∙◌, arith}
+use Rattle.std.proofs.Common.{◌≡◌, ℕ, Bool, true, false, List, ◌∷◌, refl, arith}
 use Rattle.pts_types.specs.declared.value.Kind.{Kind}
 use Rattle.pts_types.specs.declared.value.Kind.TheVariants as kinds
 use Rattle.pts_tree.specs.declared.mark.Mark.TheVariants as m
@@ -18,9 +18,9 @@ use Rattle.pts_tree.specs.declared.sum.Range.{Range}
 use Rattle.pts_tree.specs.declared.sum.Cell.{Cell}
 use Rattle.pts_tree.specs.Spelling as spelling
 use Rattle.pts_tree.specs.Spelling.{each}
-use Rattle.pts_parse.specs.Reading.{Parser, ahead, past}
+use Rattle.pts_parse.specs.Reading.{ahead}
 use Rattle.pts_parse.specs.SumReading.{atom_by, atom, sum_part, goes_on, sum_parts, sum_behind, sum_from, sum, val_by, val, range, index, cell, kind, typed}
-use Rattle.pts_parse.proofs.Again.{Gets, got, done, next, behind_sign, otherwise, in_case, expect_again, open_again, name_again, number_again, by_number, Each, each_so, Anything, Repeats, each_again}
+use Rattle.pts_parse.proofs.Again.{Gets, got, done, next, behind_sign, otherwise, expect_again, open_again, name_again, number_again, by_number, each_so, Anything, each_again}
 
 pub atom_again : (x : Atom) (tail : List Sign) → Gets 1 (spelling.atom x tail) tail (x, tail) (atom (spelling.atom x tail))
 unfolding atom

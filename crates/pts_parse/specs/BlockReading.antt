@@ -1,13 +1,12 @@
 -- Reading task blocks.
-use Rattle.std.specs.Prelude.{ℕ, zero, suc, Bool, true, false, not, List, [], ◌∷◌, Result, Ok}
+use Rattle.std.specs.Prelude.{ℕ, zero, suc, Bool, true, false, not, List, Ok}
 use Rattle.pts_tree.specs.declared.mark.Mark.TheVariants as m
 use Rattle.pts_tree.specs.declared.sign.SignKind.{SignKind}
 use Rattle.pts_tree.specs.declared.sign.SignKind.TheVariants as k
-use Rattle.pts_tree.specs.Signs.{Sign}
 use Rattle.pts_tree.specs.declared.block.TaskStmt.{TaskStmt}
 use Rattle.pts_tree.specs.declared.block.TaskStmt.TheVariants as t
 use Rattle.pts_tree.specs.declared.block.Block.{Block}
-use Rattle.pts_parse.specs.Reading.{Read, Parser, ◌>>=◌, ahead, past, unexpected, expect, open_bracket, number, each_of}
+use Rattle.pts_parse.specs.Reading.{Parser, ◌>>=◌, ahead, past, unexpected, expect, open_bracket, number, each_of}
 use Rattle.pts_parse.specs.SumReading.{cell}
 use Rattle.pts_parse.specs.CallReading.{call}
 use Rattle.pts_parse.specs.LoopReading.{value, loop_behind}

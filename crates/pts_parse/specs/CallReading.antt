@@ -1,14 +1,12 @@
 -- Reading calls of algorithms.
-use Rattle.std.specs.Prelude.{ℕ, Bool, true, false, if◌then◌else◌, List, Option, Some, None, Result, Ok}
+use Rattle.std.specs.Prelude.{ℕ, if◌then◌else◌, List, Option, Some, None, Ok}
 use Rattle.pts_types.specs.declared.operation.Policy.{Policy}
 use Rattle.pts_types.specs.declared.operation.Policy.TheVariants as policies
 use Rattle.pts_types.specs.declared.operation.ScalarOp.TheVariants as ops
-use Rattle.pts_tree.specs.declared.mark.Mark as mark
 use Rattle.pts_tree.specs.declared.mark.Mark.TheVariants as m
 use Rattle.pts_tree.specs.declared.sign.SignKind.{SignKind}
 use Rattle.pts_tree.specs.declared.sign.SignKind.TheVariants as k
 use Rattle.pts_tree.specs.Grammar.{same}
-use Rattle.pts_tree.specs.Signs.{Sign}
 use Rattle.pts_tree.specs.declared.sum.Val.{Val}
 use Rattle.pts_tree.specs.declared.sum.Range.{Range}
 use Rattle.pts_tree.specs.declared.sum.Cell.{Cell}
@@ -17,7 +15,7 @@ use Rattle.pts_tree.specs.declared.call.Op.TheVariants as op_variants
 use Rattle.pts_tree.specs.declared.call.CallForm.{CallForm}
 use Rattle.pts_tree.specs.declared.call.CallForm.TheVariants as forms
 use Rattle.pts_tree.specs.declared.call.Call.{Call}
-use Rattle.pts_parse.specs.Reading.{Read, Parser, ◌>>=◌, ahead, past, unexpected, expect, name}
+use Rattle.pts_parse.specs.Reading.{Parser, ◌>>=◌, ahead, past, unexpected, expect, name}
 use Rattle.pts_parse.specs.SumReading.{val, range, cell}
 
 -- ---- parts of calls

@@ -1,7 +1,5 @@
 -- Reading expressions. Each level takes how many more brackets may be open, and how an expression inside of one more is read.
-use Rattle.std.specs.Prelude.{ℕ, zero, suc, Bool, true, false, if◌then◌else◌, is_some, List, [], ◌∷◌, Option, Some, None, Result, Ok}
-use Rattle.pts_types.specs.declared.value.Kind.{Kind}
-use Rattle.pts_types.specs.declared.value.Kind.TheVariants as kinds
+use Rattle.std.specs.Prelude.{ℕ, zero, suc, Bool, if◌then◌else◌, is_some, List, [], ◌∷◌, Option, Some, None, Ok}
 use Rattle.pts_types.specs.declared.operation.ScalarOp.{ScalarOp}
 use Rattle.pts_types.specs.declared.operation.ScalarOp.TheVariants as ops
 use Rattle.pts_tree.specs.declared.mark.Mark as mark
@@ -9,7 +7,6 @@ use Rattle.pts_tree.specs.declared.mark.Mark.TheVariants as m
 use Rattle.pts_tree.specs.declared.sign.SignKind.{SignKind}
 use Rattle.pts_tree.specs.declared.sign.SignKind.TheVariants as k
 use Rattle.pts_tree.specs.Grammar.{same}
-use Rattle.pts_tree.specs.Signs.{Sign}
 use Rattle.pts_tree.specs.declared.expr.Expr.{Expr}
 use Rattle.pts_tree.specs.declared.expr.Expr.TheVariants as e
 use Rattle.pts_tree.specs.declared.expr.ChainPart.{ChainPart}
@@ -17,7 +14,7 @@ use Rattle.pts_parse.specs.declared.expressions.Level.{Level}
 use Rattle.pts_parse.specs.declared.expressions.Level.TheVariants as levels
 use Rattle.pts_parse.specs.declared.expressions.Connective.{Connective}
 use Rattle.pts_parse.specs.declared.expressions.Connective.TheVariants as connectives
-use Rattle.pts_parse.specs.Reading.{Read, Parser, ◌>>=◌, ahead, past, unexpected, expect, open_bracket, name, number, each_of}
+use Rattle.pts_parse.specs.Reading.{Parser, ◌>>=◌, ahead, past, unexpected, expect, open_bracket, name, number, each_of}
 use Rattle.pts_parse.specs.SumReading.{kind}
 
 -- ---- between brackets

@@ -1,5 +1,5 @@
 -- How signs begin a row of the grammar, part by part.
-use Rattle.std.specs.Prelude.{◌≡◌, true, List, [], ◌∷◌, ◌++◌}
+use Rattle.std.specs.Prelude.{◌≡◌, true, List, ◌∷◌, ◌++◌}
 use Rattle.pts_tree.specs.Signs.{Sign}
 use Rattle.pts_tree.specs.Grammar.{Part, Row, rows, Matches, Begins}
 

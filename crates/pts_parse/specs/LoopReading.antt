@@ -1,5 +1,5 @@
 -- Reading loops.
-use Rattle.std.specs.Prelude.{ℕ, zero, suc, Bool, true, false, if◌then◌else◌, is_some, List, [], ◌∷◌, Option, Some, None, Result, Ok}
+use Rattle.std.specs.Prelude.{ℕ, zero, suc, Bool, true, false, if◌then◌else◌, List, Option, Some, None, Ok}
 use Rattle.pts_types.specs.declared.value.Kind.{Kind}
 use Rattle.pts_types.specs.declared.operation.Policy.{Policy}
 use Rattle.pts_types.specs.declared.operation.ScalarOp.{ScalarOp}
@@ -9,7 +9,6 @@ use Rattle.pts_tree.specs.declared.mark.Mark.TheVariants as m
 use Rattle.pts_tree.specs.declared.sign.SignKind.{SignKind}
 use Rattle.pts_tree.specs.declared.sign.SignKind.TheVariants as k
 use Rattle.pts_tree.specs.Grammar.{same}
-use Rattle.pts_tree.specs.Signs.{Sign}
 use Rattle.pts_tree.specs.declared.sum.Atom.{Atom}
 use Rattle.pts_tree.specs.declared.sum.Atom.TheVariants as atoms
 use Rattle.pts_tree.specs.declared.sum.Sum.{Sum}
@@ -20,13 +19,11 @@ use Rattle.pts_tree.specs.declared.expr.Place.{Place}
 use Rattle.pts_tree.specs.declared.loops.Loop.{Loop}
 use Rattle.pts_tree.specs.declared.loops.Clause.{Clause}
 use Rattle.pts_tree.specs.declared.loops.Clause.TheVariants as clauses
-use Rattle.pts_tree.specs.declared.loops.ReduceClause.{ReduceClause}
-use Rattle.pts_tree.specs.declared.loops.InductClause.{InductClause}
 use Rattle.pts_tree.specs.declared.loops.Initial.{Initial}
 use Rattle.pts_tree.specs.declared.loops.Initial.TheVariants as initials
 use Rattle.pts_tree.specs.declared.loops.BodyStmt.{BodyStmt}
 use Rattle.pts_tree.specs.declared.loops.BodyStmt.TheVariants as b
-use Rattle.pts_parse.specs.Reading.{Read, Parser, ◌>>=◌, ahead, past, unexpected, expect, open_bracket, name, number, each_of}
+use Rattle.pts_parse.specs.Reading.{Parser, ◌>>=◌, ahead, past, unexpected, expect, open_bracket, name, number, each_of}
 use Rattle.pts_parse.specs.SumReading.{atom, sum_behind, sum, val, index, cell, typed}
 use Rattle.pts_parse.specs.CallReading.{policy, op}
 use Rattle.pts_parse.specs.ExprReading.{expr, inner, enclosed}

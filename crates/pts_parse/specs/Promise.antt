@@ -1,5 +1,5 @@
 -- What the parser answers for a list of signs: the script that they spell, or the first sign that does not go on.
-use Rattle.std.specs.Prelude.{◌≡◌, ℕ, suc, ◌-◌, ◌<◌, ◌≤◌, List, [], ◌∷◌, length, take, Option, Some, None, IfSome}
+use Rattle.std.specs.Prelude.{◌≡◌, ℕ, suc, ◌-◌, ◌<◌, ◌≤◌, List, length, take, Some, None, IfSome}
 use Rattle.pts_tree.specs.declared.script.Script.{Script}
 use Rattle.pts_tree.specs.Signs.{Sign}
 use Rattle.pts_tree.specs.Grammar.{IsViable}

@@ -1,5 +1,5 @@
 -- Reading declarations, items and scripts.
-use Rattle.std.specs.Prelude.{ℕ, Bool, true, false, if◌then◌else◌, List, [], ◌∷◌, length, Result, Ok, Err}
+use Rattle.std.specs.Prelude.{ℕ, Bool, true, if◌then◌else◌, List, [], ◌∷◌, Result, Ok}
 use Rattle.pts_types.specs.declared.value.Kind.{Kind}
 use Rattle.pts_tree.specs.declared.mark.Mark.TheVariants as m
 use Rattle.pts_tree.specs.declared.sign.SignKind.{SignKind}
@@ -14,7 +14,7 @@ use Rattle.pts_tree.specs.declared.script.Item.{Item}
 use Rattle.pts_tree.specs.declared.script.Item.TheVariants as items
 use Rattle.pts_tree.specs.declared.script.Script.{Script}
 use Rattle.pts_parse.specs.declared.reader.Stop.{Stop}
-use Rattle.pts_parse.specs.Reading.{Read, Parser, ◌>>=◌, ahead, past, unexpected, expect, open_bracket, name, each_of}
+use Rattle.pts_parse.specs.Reading.{Parser, ◌>>=◌, ahead, past, unexpected, expect, open_bracket, name, each_of}
 use Rattle.pts_parse.specs.SumReading.{sum, val, index, kind, typed}
 use Rattle.pts_parse.specs.CallReading.{call}
 use Rattle.pts_parse.specs.ExprReading.{sees_comma}

@@ -1,12 +1,11 @@
 -- Reading sums and what they measure.
-use Rattle.std.specs.Prelude.{ℕ, Bool, true, false, if◌then◌else◌, List, Option, Result, Ok}
+use Rattle.std.specs.Prelude.{ℕ, Bool, true, false, if◌then◌else◌, List, Ok}
 use Rattle.pts_types.specs.declared.value.Kind.{Kind}
 use Rattle.pts_types.specs.declared.value.Kind.TheVariants as kinds
 use Rattle.pts_tree.specs.declared.mark.Mark.TheVariants as m
 use Rattle.pts_tree.specs.declared.sign.SignKind.{SignKind}
 use Rattle.pts_tree.specs.declared.sign.SignKind.TheVariants as k
 use Rattle.pts_tree.specs.Grammar.{same}
-use Rattle.pts_tree.specs.Signs.{Sign}
 use Rattle.pts_tree.specs.declared.sum.Atom.{Atom}
 use Rattle.pts_tree.specs.declared.sum.Atom.TheVariants as atoms
 use Rattle.pts_tree.specs.declared.sum.SumPart.{SumPart}
@@ -15,7 +14,7 @@ use Rattle.pts_tree.specs.declared.sum.Val.{Val}
 use Rattle.pts_tree.specs.declared.sum.Val.TheVariants as vals
 use Rattle.pts_tree.specs.declared.sum.Range.{Range}
 use Rattle.pts_tree.specs.declared.sum.Cell.{Cell}
-use Rattle.pts_parse.specs.Reading.{Read, Parser, ◌>>=◌, ahead, past, unexpected, expect, open_bracket, name, number, each_of}
+use Rattle.pts_parse.specs.Reading.{Parser, ◌>>=◌, ahead, past, unexpected, expect, open_bracket, name, number, each_of}
 
 -- NUMBER | NAME
 abbrev pub atom_by : SignKind → Parser Atom

@@ -1,5 +1,5 @@
 -- No command takes bytes that it refuses, and it refuses bytes for one reason.
-use Rattle.std.proofs.Common.{◌≡◌, ◌≢◌, ◌⊎◌, inl, inr, ◌+◌, ◌-◌, ◌<◌, ◌≤◌, ℕ, zero, suc, List, [], ◌∷◌, ◌++◌, length, take, refl, sym, ap, subst, ◌∙◌, arith}
+use Rattle.std.proofs.Common.{◌≡◌, ◌≢◌, ◌⊎◌, inl, inr, ◌-◌, ◌<◌, ◌≤◌, ℕ, zero, suc, List, [], ◌∷◌, ◌++◌, length, take, refl, ap, subst, ◌∙◌, arith}
 use Rattle.pts_tree.specs.declared.script.Script.{Script}
 use Rattle.pts_tree.specs.declared.script.Item.{Item}
 use Rattle.pts_syntax.specs.Syntax.{IsParsed, ExplainsKind}
@@ -7,7 +7,6 @@ use Rattle.pts_syntax.specs.declared.reading.SyntaxFault.{SyntaxFault}
 use Rattle.pts_syntax.specs.declared.reading.SyntaxKind.{SyntaxKind}
 use Rattle.pts_syntax.specs.declared.reading.SyntaxKind.TheVariants as fault_kinds
 use Rattle.pts_syntax.proofs.OneFault.{same_script, no_fault_of_a_script, same_fault}
-use Rattle.pts_run.specs.declared.first.First.{First}
 use Rattle.pts_run.specs.declared.refusal.Refusal.{Refusal}
 use Rattle.pts_run.specs.declared.refusal.Refusal.TheVariants as refusals
 use Rattle.pts_run.specs.declared.words.Command.{Command}
@@ -45,7 +44,8 @@ order zero (suc b) = inl (omega arith)
 order (suc a) zero = inr (inl (omega arith))
 order (suc a) (suc b) = elim (order a b) [
   | inl h ↦ inl (omega (arith, h))
-  | inr other ↦ elim other [ inl h ↦ inr (inl (omega (arith, h))) | inr e ↦ inr (inr (ap suc e)) ] ]
+  | inr other ↦ elim other [ inl h ↦ inr (inl (omega (arith, h))) | inr e ↦ inr (inr (ap suc e)) ]
+]
 
 first_items : (items : List Item) (low high : ℕ) → low ≤ high → (back : List Item) × (take high items ≡ take low items ++ back)
 first_items items zero high h = (take high items, refl)
@@ -63,7 +63,8 @@ later_before script item other l m h =
 same_item : (script : Script) (item other : ℕ) → IsLater script item → IsLater script other → item ≡ other
 same_item script item other l m = elim (order item other) [
   | inl less ↦ absurd (later_before script item other l m less)
-  | inr rest ↦ elim rest [ inl more ↦ absurd (later_before script other item m l more) | inr e ↦ e ] ]
+  | inr rest ↦ elim rest [ inl more ↦ absurd (later_before script other item m l more) | inr e ↦ e ]
+]
 
 -- ---- one reason
 

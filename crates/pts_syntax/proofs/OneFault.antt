@@ -1,13 +1,10 @@
 -- Bytes have one answer: one script, or one fault.
-use Rattle.std.proofs.Common.{◌≡◌, ◌≢◌, ◌⊎◌, inl, inr, false, ℕ, zero, suc, ◌+◌, ◌-◌, ◌<◌, ◌≤◌, List, [], ◌∷◌, ◌++◌, length, take, drop, Option, Some, None, IfSome, refl, sym, ap, subst, ◌∙◌, arith}
-use Rattle.pts_lex.specs.declared.token.Token.{Token}
-use Rattle.pts_lex.specs.declared.token.LexFault.{LexFault}
+use Rattle.std.proofs.Common.{◌≡◌, ◌≢◌, ◌⊎◌, inl, inr, false, ℕ, zero, suc, ◌-◌, ◌<◌, ◌≤◌, List, [], ◌∷◌, ◌++◌, length, take, Option, Some, None, IfSome, refl, sym, ap, subst, ◌∙◌, arith}
 use Rattle.pts_lex.specs.declared.token.LexFault.TheVariants as lex_faults
 use Rattle.pts_lex.proofs.OneFault.{one_fault}
-use Rattle.pts_tree.specs.declared.sign.SignKind.{SignKind}
 use Rattle.pts_tree.specs.declared.script.Script.{Script}
 use Rattle.pts_tree.specs.Signs.{Sign, kind_of}
-use Rattle.pts_tree.specs.Grammar.{Rule, The, rows, Matches, IsViable}
+use Rattle.pts_tree.specs.Grammar.{Rule, The, rows, IsViable}
 use Rattle.pts_parse.specs.Brackets.{room_behind, beyond, bracket_limit}
 use Rattle.pts_parse.specs.Promise.{IsRead, IsUnexpected, IsNesting}
 use Rattle.pts_parse.proofs.Fronts.{front_begins}
@@ -15,8 +12,8 @@ use Rattle.pts_parse.proofs.WholeScripts.{one_reading}
 use Rattle.pts_syntax.specs.declared.reading.SyntaxFault.{SyntaxFault}
 use Rattle.pts_syntax.specs.declared.reading.SyntaxKind.{SyntaxKind}
 use Rattle.pts_syntax.specs.declared.reading.SyntaxKind.TheVariants as fault_kinds
-use Rattle.pts_syntax.specs.Syntax.{IsText, IsParsed, IsUnexpectedAt, IsNestingAt, ExplainsKind, Explains, place_of}
-use Rattle.pts_syntax.proofs.OneAnswer.{AreOneText, one_answer, no_fault_in_text}
+use Rattle.pts_syntax.specs.Syntax.{IsParsed, IsUnexpectedAt, IsNestingAt, ExplainsKind, Explains, place_of}
+use Rattle.pts_syntax.proofs.OneAnswer.{one_answer, no_fault_in_text}
 
 -- ---- of signs
 

@@ -1,10 +1,10 @@
 -- The tokens of a text lie within it, and what they say is said at their places.
-use Rattle.std.proofs.Common.{◌≡◌, ℕ, zero, suc, ◌+◌, ◌-◌, ◌<◌, ◌≤◌, List, [], ◌∷◌, ◌++◌, length, take, drop, get_or, All, refl, sym, ap, subst, ◌∙◌, append_assoc, length-append, arith}
+use Rattle.std.proofs.Common.{◌≡◌, ℕ, ◌+◌, ◌<◌, ◌≤◌, List, [], ◌∷◌, ◌++◌, length, take, get_or, All, refl, sym, ap, subst, ◌∙◌, append_assoc, length-append, arith}
 use Rattle.std.specs.List.{slice_range}
 use Rattle.std.proofs.lemmas.List.{take_more, take_all}
 use Rattle.std.proofs.lemmas.List.Elements.{All-nil, All-cons}
 use Rattle.pts_lex.specs.declared.token.Token.{Token}
-use Rattle.pts_lex.specs.Lexical.{LeadTo, Lexes, IsSpelling}
+use Rattle.pts_lex.specs.Lexical.{LeadTo, Lexes}
 use Rattle.pts_lex.proofs.Scans.{lies}
 use Rattle.pts_tree.specs.Signs.{Sign}
 use Rattle.pts_syntax.specs.Syntax.{Says, AllSay}

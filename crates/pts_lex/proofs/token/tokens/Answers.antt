@@ -1,4 +1,4 @@
-use Rattle.std.proofs.Common.{length, drop}
+use Rattle.std.proofs.Common.{drop}
 use Rattle.std.proofs.lemmas.List.{take_rest}
 use Rattle.pts_lex.specs.Lexical.{IsFirstToken}
 use Rattle.pts_lex.proofs.TokenLists.{token_read}

@@ -1,4 +1,4 @@
-use Rattle.std.proofs.Common.{◌≡◌, ℕ, ◌+◌, ◌-◌, ◌*◌, length}
+use Rattle.std.proofs.Common.{◌≡◌, ◌+◌, ◌-◌, ◌*◌, length}
 use Rattle.pts_parse.specs.Reading.{many}
 use Rattle.pts_parse.specs.ExprReading as spec
 use Rattle.pts_parse.proofs.Repeats.{with_front}

@@ -1,4 +1,4 @@
-use Rattle.std.proofs.Common.{◌≡◌, Result, Ok, Err, IfOk, refl, sym, ◌∙◌, ℕ, List}
+use Rattle.std.proofs.Common.{◌≡◌, Result, Ok, Err, IfOk, ◌∙◌, ℕ, List}
 use Rattle.pts_tree.specs.Signs.{Sign}
 use Rattle.pts_tree.specs.declared.script.Script.{Script}
 use Rattle.pts_parse.specs.declared.reader.Stop.{Stop}

@@ -1,6 +1,4 @@
-use Rattle.std.proofs.Common.{rules, ◌≡◌, ◌++◌, ◌∷◌, [], subst, sym}
-use Rattle.pts_syntax.specs.Syntax.{Says}
-use Rattle.pts_syntax.proofs.TokenPlaces.{SaidTo, said_one}
+use Rattle.pts_syntax.proofs.TokenPlaces.{said_one}
 use Rattle.pts_syntax.proofs.signs.signs.Goals as goal
 
 pub loop-token-preserved : goal.loop-token-preserved
