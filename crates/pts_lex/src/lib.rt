@@ -3,4 +3,6 @@
 
 mod token;
 
-pub use token::{LexFault, Token, TokenKind, first_token, one_token_list, scan, tokens};
+pub use token::{
+    LexFault, Token, TokenKind, first_token, one_token_list, tokens, tokens_or_one_fault,
+};

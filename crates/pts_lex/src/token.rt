@@ -283,7 +283,7 @@ fn kind_of(text: &[u8]) -> Option<TokenKind>
 
 // `first_token` by the steps that it takes.
 #[tactic(auto, unfolding(crate::specs::Scanning::scan))]
-pub fn scan(bytes: &[u8]) -> Result<Option<Token>, LexFault>
+fn scan(bytes: &[u8]) -> Result<Option<Token>, LexFault>
     ensures value { result ≡ spec.scan bytes.now }
     ensures ordered { IfOk result (λ found. IfSome found (λ t. t.start ≤ t.end)) }
     ensures within { IfOk result (λ found. IfSome found (λ t. t.end ≤ length bytes.now)) }
@@ -355,6 +355,12 @@ pub fn tokens(alloc: Global, bytes: &[u8]) -> Result<Vec<Token>, LexFault>
 /// A law: a text has at most one list of tokens.
 pub fn one_token_list()
     ensures { (bytes : List ℕ) (some others : List Token) → lexical.Lexes bytes some → lexical.Lexes bytes others → some ≡ others }
+{}
+
+/// A law: a text that has tokens has no fault, and a text has one first fault.
+pub fn tokens_or_one_fault()
+    ensures tokens { (bytes : List ℕ) (some : List Token) (fault : LexFault) → lexical.Lexes bytes some → lexical.IsFirstFault bytes fault → ⊥ }
+    ensures fault { (bytes : List ℕ) (one other : LexFault) → lexical.IsFirstFault bytes one → lexical.IsFirstFault bytes other → one ≡ other }
 {}
 
 #[cfg(test)]

@@ -13,7 +13,7 @@ use sqlite_items::Items;
 use std::alloc::Global;
 
 #[tactic(auto, unfolding(crate::specs::Reading::and_then, crate::specs::BlockReading::throw_stmt))]
-fn throw_stmt(signs: &[Sign]) -> Read<TaskStmt>
+fn throw_statement(signs: &[Sign]) -> Read<TaskStmt>
     ensures { Gives (λ x. (x.0, x.1.now)) result (spec.throw_stmt signs.now) }
 {
     let (code, rest) = number(signs)?;
@@ -54,12 +54,12 @@ fn block_of(alloc: Global, room: usize, signs: &[Sign]) -> Read<Block>
 // A statement that may stand directly in a `run`.
 #[cycle(tasks)]
 #[tactic(auto, unfolding(crate::specs::Reading::and_then, crate::specs::BlockReading::rstmt_of))]
-fn rstmt(alloc: Global, room: usize, signs: &[Sign]) -> Read<TaskStmt>
+fn run_statement(alloc: Global, room: usize, signs: &[Sign]) -> Read<TaskStmt>
     ensures { Gives (λ x. (x.0, x.1.now)) result (spec.rstmt_of room (spec.inner_tasks room) signs.now) }
 {
     match ahead(signs) {
         SignKind::Name => assign_cell(alloc, room, signs),
-        SignKind::Mark(Mark::Throw) => throw_stmt(past(signs)),
+        SignKind::Mark(Mark::Throw) => throw_statement(past(signs)),
         SignKind::Mark(Mark::ForLoop) => {
             let (statement, rest) = loop_behind(alloc, room, past(signs))?;
             Ok((TaskStmt::Loop(statement), rest))
@@ -77,7 +77,7 @@ fn rstmt(alloc: Global, room: usize, signs: &[Sign]) -> Read<TaskStmt>
 
 #[cycle(tasks)]
 #[tactic(auto, unfolding(crate::specs::Reading::and_then, crate::specs::BlockReading::tstmt_of))]
-fn tstmt(alloc: Global, room: usize, signs: &[Sign]) -> Read<TaskStmt>
+fn task_statement(alloc: Global, room: usize, signs: &[Sign]) -> Read<TaskStmt>
     ensures { Gives (λ x. (x.0, x.1.now)) result (spec.tstmt_of room (spec.inner_tasks room) signs.now) }
 {
     match ahead(signs) {
@@ -89,7 +89,7 @@ fn tstmt(alloc: Global, room: usize, signs: &[Sign]) -> Read<TaskStmt>
             let rest = expect(Mark::Semicolon, past(signs))?;
             Ok((TaskStmt::Wait, rest))
         }
-        _ => rstmt(alloc, room, signs),
+        _ => run_statement(alloc, room, signs),
     }
 }
 
@@ -99,9 +99,9 @@ fn task(alloc: Global, in_run: bool, room: usize, signs: &[Sign]) -> Read<TaskSt
     ensures { Gives (λ x. (x.0, x.1.now)) result (spec.task_of in_run room (spec.inner_tasks room) signs.now) }
 {
     if in_run {
-        rstmt(alloc, room, signs)
+        run_statement(alloc, room, signs)
     } else {
-        tstmt(alloc, room, signs)
+        task_statement(alloc, room, signs)
     }
 }
 

@@ -173,7 +173,7 @@ fn operand(alloc: Global, level: Level, room: usize, signs: &[Sign]) -> Read<Exp
     ensures { Gives (λ x. (x.0, x.1.now)) result (spec.operand level room (spec.inner room) signs.now) }
 {
     match level {
-        Level::Multiplying => una(alloc, room, signs),
+        Level::Multiplying => unary(alloc, room, signs),
         Level::Adding => chain(alloc, Level::Multiplying, room, signs),
         Level::Bitwise => chain(alloc, Level::Adding, room, signs),
     }
@@ -181,25 +181,25 @@ fn operand(alloc: Global, level: Level, room: usize, signs: &[Sign]) -> Read<Exp
 
 #[cycle(expressions)]
 #[tactic(auto, unfolding(crate::specs::Reading::and_then, crate::specs::ExprReading::una))]
-fn una(alloc: Global, room: usize, signs: &[Sign]) -> Read<Expr>
+fn unary(alloc: Global, room: usize, signs: &[Sign]) -> Read<Expr>
     ensures { Gives (λ x. (x.0, x.1.now)) result (spec.una room (spec.inner room) signs.now) }
 {
     match ahead(signs) {
         SignKind::Mark(Mark::MinusSign) => {
-            let (operand, rest) = prim(alloc, room, past(signs))?;
+            let (operand, rest) = primary(alloc, room, past(signs))?;
             Ok((Expr::Minus(Boxed::new(alloc, operand)?), rest))
         }
         SignKind::Mark(Mark::Exclamation) => {
-            let (operand, rest) = prim(alloc, room, past(signs))?;
+            let (operand, rest) = primary(alloc, room, past(signs))?;
             Ok((Expr::Not(Boxed::new(alloc, operand)?), rest))
         }
-        _ => prim(alloc, room, signs),
+        _ => primary(alloc, room, signs),
     }
 }
 
 #[cycle(expressions)]
 #[tactic(auto, unfolding(crate::specs::Reading::and_then, crate::specs::ExprReading::prim))]
-fn prim(alloc: Global, room: usize, signs: &[Sign]) -> Read<Expr>
+fn primary(alloc: Global, room: usize, signs: &[Sign]) -> Read<Expr>
     ensures { Gives (λ x. (x.0, x.1.now)) result (spec.prim room (spec.inner room) signs.now) }
 {
     match ahead(signs) {

@@ -212,7 +212,7 @@ fn combine(alloc: Global, room: usize, text: Name, signs: &[Sign]) -> Read<BodyS
 }
 
 #[tactic(auto, unfolding(crate::specs::LoopReading::name_stmt))]
-fn name_stmt(alloc: Global, room: usize, text: Name, signs: &[Sign]) -> Read<BodyStmt>
+fn name_statement(alloc: Global, room: usize, text: Name, signs: &[Sign]) -> Read<BodyStmt>
     ensures { Gives (λ x. (x.0, x.1.now)) result (spec.name_stmt room text signs.now) }
 {
     match ahead(signs) {
@@ -232,7 +232,7 @@ fn let_name(alloc: Global, room: usize, signs: &[Sign]) -> Read<BodyStmt>
 }
 
 #[tactic(auto, unfolding(crate::specs::LoopReading::upd))]
-fn upd(signs: &[Sign]) -> Read<ScalarOp>
+fn update(signs: &[Sign]) -> Read<ScalarOp>
     ensures { Gives (λ x. (x.0, x.1.now)) result (spec.upd signs.now) }
 {
     let op = match ahead(signs) {
@@ -252,7 +252,7 @@ fn ordered(alloc: Global, room: usize, signs: &[Sign]) -> Read<BodyStmt>
     ensures { Gives (λ x. (x.0, x.1.now)) result (spec.ordered room signs.now) }
 {
     let (place, rest) = place(alloc, room, signs)?;
-    let (op, rest) = upd(rest)?;
+    let (op, rest) = update(rest)?;
     let (value, rest) = expr(alloc, room, rest)?;
     let rest = expect(Mark::Semicolon, rest)?;
     Ok((BodyStmt::Ordered(place, op, value), rest))
@@ -265,7 +265,7 @@ fn braced(alloc: Global, room: usize, signs: &[Sign]) -> Read<Items<BodyStmt>>
     ensures { Gives (λ x. (x.0, x.1.now)) result (spec.braced room (spec.inner_bstmts room) signs.now) }
 {
     let rest = open_bracket(room, Mark::OpenBrace, signs)?;
-    let (statements, rest) = bstmts(alloc, room - 1, rest)?;
+    let (statements, rest) = body_statements(alloc, room - 1, rest)?;
     let rest = expect(Mark::CloseBrace, rest)?;
     Ok((statements, rest))
 }
@@ -284,7 +284,7 @@ fn else_part(alloc: Global, room: usize, signs: &[Sign]) -> Read<Option<Items<Bo
 
 #[cycle(statements)]
 #[tactic(auto, unfolding(crate::specs::Reading::and_then, crate::specs::LoopReading::if_stmt))]
-fn if_stmt(alloc: Global, room: usize, signs: &[Sign]) -> Read<BodyStmt>
+fn if_statement(alloc: Global, room: usize, signs: &[Sign]) -> Read<BodyStmt>
     ensures { Gives (λ x. (x.0, x.1.now)) result (spec.if_stmt room (spec.inner_bstmts room) signs.now) }
 {
     let (test, rest) = expr(alloc, room, signs)?;
@@ -304,16 +304,16 @@ fn vec_off(alloc: Global, room: usize, signs: &[Sign]) -> Read<BodyStmt>
 
 #[cycle(statements)]
 #[tactic(auto, unfolding(crate::specs::Reading::and_then, crate::specs::LoopReading::bstmt_of))]
-fn bstmt(alloc: Global, room: usize, signs: &[Sign]) -> Read<BodyStmt>
+fn body_statement(alloc: Global, room: usize, signs: &[Sign]) -> Read<BodyStmt>
     ensures { Gives (λ x. (x.0, x.1.now)) result (spec.bstmt_of room (spec.inner_bstmts room) signs.now) }
 {
     match ahead(signs) {
         SignKind::Name => {
             let (text, rest) = name(alloc, signs)?;
-            name_stmt(alloc, room, text, rest)
+            name_statement(alloc, room, text, rest)
         }
         SignKind::Mark(Mark::Let) => let_name(alloc, room, past(signs)),
-        SignKind::Mark(Mark::If) => if_stmt(alloc, room, past(signs)),
+        SignKind::Mark(Mark::If) => if_statement(alloc, room, past(signs)),
         SignKind::Mark(Mark::VecOff) => vec_off(alloc, room, past(signs)),
         SignKind::Mark(Mark::Ordered) => ordered(alloc, room, past(signs)),
         _ => Err(Stop::Unexpected(signs.len())),
@@ -322,16 +322,16 @@ fn bstmt(alloc: Global, room: usize, signs: &[Sign]) -> Read<BodyStmt>
 
 #[cycle(statements)]
 #[tactic(auto, using(crate::proofs::Repeats::loops, crate::proofs::Rooms::bstmts_is))]
-fn bstmts(alloc: Global, room: usize, signs: &[Sign]) -> Read<Items<BodyStmt>>
+fn body_statements(alloc: Global, room: usize, signs: &[Sign]) -> Read<Items<BodyStmt>>
     ensures { Gives (λ x. (x.0, x.1.now)) result (spec.bstmts room signs.now) }
 {
     let mut found = Items::new(alloc);
     let mut rest = signs;
     for _turn in 0..signs.len() {
-        if !sees_bstmt(rest) {
+        if !sees_body_statement(rest) {
             return Ok((found, rest));
         }
-        let (part, next) = bstmt(alloc, room, rest)?;
+        let (part, next) = body_statement(alloc, room, rest)?;
         found.push(part)?;
         rest = next;
     }
@@ -339,7 +339,7 @@ fn bstmts(alloc: Global, room: usize, signs: &[Sign]) -> Read<Items<BodyStmt>>
 }
 
 #[tactic(auto, unfolding(crate::specs::LoopReading::sees_bstmt))]
-fn sees_bstmt(signs: &[Sign]) -> bool
+fn sees_body_statement(signs: &[Sign]) -> bool
     ensures { result ≡ spec.sees_bstmt (ahead signs.now) }
 {
     matches!(

@@ -10,8 +10,8 @@ decreases-block_of l = l.room * 8 + 2
 abbrev pub decreases-braced_tasks : goal.decreases-braced_tasks
 decreases-braced_tasks l = l.room * 8 + 1
 
-abbrev pub decreases-rstmt : goal.decreases-rstmt
-decreases-rstmt l = l.room * 8 + 3
+abbrev pub decreases-run_statement : goal.decreases-run_statement
+decreases-run_statement l = l.room * 8 + 3
 
 abbrev pub decreases-task : goal.decreases-task
 decreases-task l = l.room * 8 + 5
@@ -19,8 +19,8 @@ decreases-task l = l.room * 8 + 5
 abbrev pub decreases-task_list : goal.decreases-task_list
 decreases-task_list l = l.room * 8 + 6
 
-abbrev pub decreases-tstmt : goal.decreases-tstmt
-decreases-tstmt l = l.room * 8 + 4
+abbrev pub decreases-task_statement : goal.decreases-task_statement
+decreases-task_statement l = l.room * 8 + 4
 
 abbrev pub invariant-task_list-loop-turn : goal.invariant-task_list-loop-turn
 invariant-task_list-loop-turn l =

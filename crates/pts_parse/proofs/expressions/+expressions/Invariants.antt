@@ -68,11 +68,11 @@ decreases-operand l = l.room * 64 + (level_rank l.level + 1)
 abbrev pub decreases-paren : goal.decreases-paren
 decreases-paren l = l.room * 64 + 7
 
-abbrev pub decreases-prim : goal.decreases-prim
-decreases-prim l = l.room * 64 + 9
+abbrev pub decreases-primary : goal.decreases-primary
+decreases-primary l = l.room * 64 + 9
 
-abbrev pub decreases-una : goal.decreases-una
-decreases-una l = l.room * 64 + 10
+abbrev pub decreases-unary : goal.decreases-unary
+decreases-unary l = l.room * 64 + 10
 
 abbrev pub invariant-chain_parts-loop-turn : goal.invariant-chain_parts-loop-turn
 invariant-chain_parts-loop-turn l = with_front l.found (many (spec.sees_operator l.level) (spec.chain_part l.level (spec.operand l.level l.room (spec.inner l.room))) (length l.signs - l._turn) l.rest) ≡ many (spec.sees_operator l.level) (spec.chain_part l.level (spec.operand l.level l.room (spec.inner l.room))) (length l.signs) l.signs
