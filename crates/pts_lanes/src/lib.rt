@@ -8,6 +8,8 @@ mod folds;
 mod gathering;
 mod operations;
 mod strips;
+#[cfg(test)]
+mod tests;
 
 pub use fills::{compare_u64, map2_u64, select_u64};
 pub use folds::{count_true, fold_u64, min_max_i64};
