@@ -1,4 +1,6 @@
 pub mod Counts
+pub mod Faults
+pub mod Indices
 pub mod Kinds
 pub mod Known
 pub mod Limits

@@ -2,5 +2,7 @@
 #![tactic(auto)]
 
 mod fault;
+mod laws;
 
 pub use fault::BuildFault;
+pub use laws::one_fault;

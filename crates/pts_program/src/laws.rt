@@ -1,0 +1,12 @@
+//! What the rules say of every script.
+
+ghost use Rattle.std.specs.Prelude.{◌≡◌, ◌⊎◌, ℕ};
+ghost use Rattle.pts_tree.specs.declared.script.Script.{Script};
+ghost use Rattle.pts_program.specs.declared.fault.BuildFault.{BuildFault};
+ghost use Rattle.pts_program.specs.Faults.{IsFaultAt};
+
+/// No script has two faults.
+pub fn one_fault()
+    ensures { (script : Script) (item other : ℕ) (fault another : BuildFault)
+        → IsFaultAt script item fault → IsFaultAt script other another → (item ≡ other) × (fault ≡ another) }
+{}
