@@ -1,12 +1,12 @@
 -- No script has two faults, and a script without a fault breaks no rule.
-use Rattle.std.proofs.Common.{◌≡◌, ℕ, zero, suc, ◌+◌, ◌-◌, ◌<◌, ◌≤◌, ◌⊎◌, inl, inr, Bool, true, false, ◌==◌, if◌then◌else◌, IsTrue, IsSomeAnd, Option, Some, None, List, [], ◌∷◌, length, refl, sym, ap, ◌∙◌, subst, arith}
-use Rattle.std.proofs.lemmas.Bool.{cases_lt, cases_order}
+use Rattle.std.proofs.Common.{◌≡◌, ℕ, ◌<◌, ◌⊎◌, inl, inr, ◌==◌, if◌then◌else◌, IsSomeAnd, Option, Some, None, List, refl, sym, ap, ◌∙◌, subst, arith}
+use Rattle.std.proofs.lemmas.Bool.{cases_order}
 use Rattle.pts_tree.specs.declared.script.Item.{Item}
 use Rattle.pts_tree.specs.declared.script.Script.{Script}
 use Rattle.pts_program.specs.declared.fault.BuildFault.{BuildFault}
 use Rattle.pts_program.specs.declared.fault.BuildFault.TheVariants as faults
 use Rattle.pts_program.specs.Faults.{Rule, Unknown, Twice, Mistyped, TooDeep, TooMany, BadStep, BackwardRange, LengthsDiffer, BadIdentity, NotAffine, OutOfRange}
-use Rattle.pts_program.specs.Faults.{place_of, Breaks, BreaksAt, HoldsOf, IsPosition, IsFirstOut, IsFaultAt, item_at, items_before, fault_of}
+use Rattle.pts_program.specs.Faults.{place_of, HoldsOf, IsPosition, IsFaultAt, item_at, items_before, fault_of}
 
 -- ---- rules by their places
 
@@ -56,7 +56,7 @@ same-rule : (script : Script) (n : ℕ) (fault another : BuildFault) (a : IsFaul
 same-rule script n fault another a b e =
     a.named
     ∙ same-position a.rule (item_at script n) (items_before script n) n a.position b.position a.first
-        (subst (λ rule. HoldsOf script n (λ before x. IsPosition rule before x b.position)) (sym e) b.first)
+    (subst (λ rule. HoldsOf script n (λ before x. IsPosition rule before x b.position)) (sym e) b.first)
     ∙ ap (λ rule. fault_of rule n b.position) e
     ∙ sym b.named
 

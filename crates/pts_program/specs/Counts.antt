@@ -1,8 +1,6 @@
 -- How deep and how large functions, blocks and statements are.
-use Rattle.std.specs.Prelude.{ℕ, ◌+◌, ◌-◌, ◌*◌, ◌/◌, max, Bool, true, false, ◌&&◌, ◌||◌, if◌then◌else◌, is_some, Option, Some, None, List, [], ◌∷◌, length, sum, map, flat_map, ℤ, pos, ◌-ℤ◌, nat_abs, int_lt}
-use Rattle.std.specs.List.{list_any}
+use Rattle.std.specs.Prelude.{ℕ, ◌+◌, ◌-◌, ◌/◌, max, Bool, true, false, ◌&&◌, ◌||◌, if◌then◌else◌, is_some, Option, Some, None, List, [], ◌∷◌, length, sum, map, flat_map, ℤ, pos, ◌-ℤ◌, nat_abs, int_lt}
 use Rattle.pts_tree.specs.declared.sum.Sum.{Sum}
-use Rattle.pts_tree.specs.declared.call.Call as call
 use Rattle.pts_tree.specs.declared.call.CallForm.{CallForm}
 use Rattle.pts_tree.specs.declared.call.CallForm.TheVariants as forms
 use Rattle.pts_tree.specs.declared.expr.Expr.{Expr}
@@ -11,15 +9,14 @@ use Rattle.pts_tree.specs.declared.expr.Expr.TheFolds.{fold-Expr}
 use Rattle.pts_tree.specs.declared.loops.Loop as loops
 use Rattle.pts_tree.specs.declared.loops.Clause.{Clause}
 use Rattle.pts_tree.specs.declared.loops.Clause.TheVariants as clauses
-use Rattle.pts_tree.specs.declared.loops.Initial.{Initial}
 use Rattle.pts_tree.specs.declared.loops.Initial.TheVariants as initials
 use Rattle.pts_tree.specs.declared.loops.BodyStmt.{BodyStmt}
 use Rattle.pts_tree.specs.declared.loops.BodyStmt.TheOpen.{BodyStmt-F}
 use Rattle.pts_tree.specs.declared.loops.BodyStmt.TheFolds.{fold-BodyStmt}
 use Rattle.pts_tree.specs.declared.block.Block.{Block}
-use Rattle.pts_tree.specs.declared.block.TaskStmt.TheOpen.{TaskStmt-F, Block-F}
+use Rattle.pts_tree.specs.declared.block.TaskStmt.TheOpen.{TaskStmt-F}
 use Rattle.pts_tree.specs.declared.block.TaskStmt.TheFolds.{fold-Block}
-use Rattle.pts_program.specs.Parts.{Name, Simple, Throw, Assign, Call, Loop}
+use Rattle.pts_program.specs.Parts.{Simple, Throw, Assign, Call, Loop}
 use Rattle.pts_program.specs.Known.{Scope, Signature, function_of, constant_of, number}
 
 -- ---- functions

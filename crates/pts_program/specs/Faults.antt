@@ -1,5 +1,5 @@
 -- The rules in their order, and the first fault of a script.
-use Rattle.std.specs.Prelude.{◌≡◌, ℕ, zero, suc, ◌-◌, ◌<◌, ◌≤◌, IsTrue, IsSomeAnd, Option, Some, None, List, take, slice_get, ⊤}
+use Rattle.std.specs.Prelude.{◌≡◌, ℕ, zero, suc, ◌-◌, ◌<◌, ◌≤◌, IsTrue, IsSomeAnd, Option, None, List, take, slice_get, ⊤}
 use Rattle.pts_tree.specs.declared.script.Item.{Item}
 use Rattle.pts_tree.specs.declared.script.Script.{Script}
 use Rattle.pts_program.specs.declared.fault.BuildFault.{BuildFault}

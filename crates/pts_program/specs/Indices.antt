@@ -1,5 +1,5 @@
 -- NotAffine and OutOfRange: indices that are no lines, and positions at which a cell is not in its array.
-use Rattle.std.specs.Prelude.{ℕ, Bool, true, false, not, ◌&&◌, ◌||◌, ◌==◌, nat_lt, nat_le, if◌then◌else◌, is_none, option_and_then, Option, Some, None, List, [], ◌∷◌, ◌++◌, map, fold, flat_map, ℤ, pos, ◌+ℤ◌, ◌-ℤ◌, ◌*ℤ◌, neg_ℤ, int_lt, int_le}
+use Rattle.std.specs.Prelude.{ℕ, Bool, true, false, not, ◌&&◌, ◌||◌, ◌==◌, nat_lt, nat_le, if◌then◌else◌, is_none, option_and_then, Option, Some, None, List, [], ◌∷◌, ◌++◌, fold, flat_map, ℤ, pos, ◌+ℤ◌, ◌-ℤ◌, ◌*ℤ◌, neg_ℤ, int_lt, int_le}
 use Rattle.std.specs.List.{list_any}
 use Rattle.std.specs.Ordering.{int_eq}
 use Rattle.std.specs.Str.{bytes_eq}
@@ -11,14 +11,13 @@ use Rattle.pts_affine.specs.Lines.{cell}
 use Rattle.pts_tree.specs.declared.sum.Range.{Range}
 use Rattle.pts_tree.specs.declared.sum.Cell.{Cell}
 use Rattle.pts_tree.specs.declared.expr.Expr.{Expr}
-use Rattle.pts_tree.specs.declared.expr.Expr.TheOpen.{Expr-F, ChainPart-F}
+use Rattle.pts_tree.specs.declared.expr.Expr.TheOpen.{Expr-F}
 use Rattle.pts_tree.specs.declared.expr.Expr.TheFolds.{fold-Expr, para-Expr}
 use Rattle.pts_tree.specs.declared.expr.ChainPart.{ChainPart}
 use Rattle.pts_tree.specs.declared.expr.Place.{Place}
 use Rattle.pts_tree.specs.declared.loops.Loop as loops
 use Rattle.pts_tree.specs.declared.loops.Clause.{Clause}
 use Rattle.pts_tree.specs.declared.loops.Clause.TheVariants as clauses
-use Rattle.pts_tree.specs.declared.loops.Initial.{Initial}
 use Rattle.pts_tree.specs.declared.loops.Initial.TheVariants as initials
 use Rattle.pts_tree.specs.declared.loops.BodyStmt.{BodyStmt}
 use Rattle.pts_tree.specs.declared.loops.BodyStmt.TheOpen.{BodyStmt-F}
@@ -158,7 +157,7 @@ line_of first step n slope =
     record {
       c = if nat_le n 1 then pos 0 else slope.factor *ℤ step;
       d = if n == 0 then pos 0 else slope.factor *ℤ first +ℤ slope.offset;
-      n = n
+      n = n;
     }
 
 -- the length of an array; of what is no array only a broken rule is asked

@@ -1,16 +1,15 @@
 -- The kinds of expressions: which are bare, which kind the others have, and where each may stand.
 use Rattle.std.specs.Option.{option_or}
-use Rattle.std.specs.Prelude.{ℕ, nat_le, Bool, true, false, ◌&&◌, unwrap_or, Option, Some, None, List, [], ◌∷◌, ℤ, pos, neg_ℤ}
+use Rattle.std.specs.Prelude.{nat_le, Bool, true, false, ◌&&◌, unwrap_or, Option, Some, None, List, [], ◌∷◌, ℤ, pos, neg_ℤ}
 use Rattle.std.specs.List.{list_all}
 use Rattle.pts_types.specs.declared.value.Kind.{Kind}
 use Rattle.pts_types.specs.declared.value.Kind.TheVariants as kinds
 use Rattle.pts_types.specs.declared.operation.ScalarOp.{ScalarOp}
 use Rattle.pts_types.specs.declared.operation.ScalarOp.TheVariants as ops
 use Rattle.pts_tree.specs.declared.expr.Expr.{Expr}
-use Rattle.pts_tree.specs.declared.expr.Expr.TheOpen.{Expr-F, ChainPart-F}
+use Rattle.pts_tree.specs.declared.expr.Expr.TheOpen.{Expr-F}
 use Rattle.pts_tree.specs.declared.expr.Expr.TheFolds.{fold-Expr}
-use Rattle.pts_program.specs.Parts.{Name}
-use Rattle.pts_program.specs.Known.{Signature, Scope, meaning_of, Meaning, Constant, Value, constant_of, function_of, kind_of_array, has, holds, same_kind, is_number}
+use Rattle.pts_program.specs.Known.{Signature, Scope, meaning_of, Meaning, Constant, Value, function_of, kind_of_array, holds, same_kind, is_number}
 
 -- an expression by its literal number (a NUMBER or a constant name alone), its own kind (none where it is bare), and the
 -- kinds that its place may ask

@@ -1,5 +1,5 @@
 -- What names stand for, and the exact values of sums.
-use Rattle.std.specs.Prelude.{ℕ, ◌^◌, ◌-◌, Bool, true, false, ◌&&◌, if◌then◌else◌, option_map, option_and_then, Option, Some, None, List, [], ◌∷◌, fold, ℤ, pos, ◌+ℤ◌, ◌-ℤ◌, neg_ℤ, int_le}
+use Rattle.std.specs.Prelude.{ℕ, ◌^◌, ◌-◌, Bool, true, false, ◌&&◌, if◌then◌else◌, option_map, option_and_then, Option, Some, None, List, [], ◌∷◌, fold, ℤ, pos, ◌+ℤ◌, neg_ℤ, int_le}
 use Rattle.std.specs.Str.{bytes_eq}
 use Rattle.pts_types.specs.declared.value.Kind.{Kind}
 use Rattle.pts_types.specs.declared.value.Kind.TheVariants as kinds

@@ -1,10 +1,10 @@
 -- TooDeep and TooMany: what is nested too deep, and the limits that an item passes.
-use Rattle.std.specs.Prelude.{ℕ, ◌+◌, ◌^◌, nat_lt, Bool, true, false, ◌||◌, List, [], ◌∷◌, length, sum, map, count_by}
+use Rattle.std.specs.Prelude.{ℕ, ◌+◌, ◌^◌, nat_lt, Bool, true, false, ◌||◌, List, length, sum, map, count_by}
 use Rattle.std.specs.List.{list_any}
 use Rattle.pts_tree.specs.declared.script.Item.{Item}
 use Rattle.pts_tree.specs.declared.script.Item.TheVariants as items
-use Rattle.pts_program.specs.Parts.{Simple, Throw, Assign, Call, Loop, statements}
-use Rattle.pts_program.specs.Known.{Entry, Scope, Meaning, Array, number}
+use Rattle.pts_program.specs.Parts.{Simple, Loop, statements}
+use Rattle.pts_program.specs.Known.{Scope, Meaning, Array}
 use Rattle.pts_program.specs.Counts.{depth_of, size_of, nesting, runs, statement_points, loop_positions}
 use Rattle.pts_program.specs.Mistyped.{natural}
 use Rattle.pts_program.specs.Scopes.{known, after}

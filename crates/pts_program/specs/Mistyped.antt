@@ -6,7 +6,6 @@ use Rattle.pts_types.specs.declared.value.Kind.TheVariants as kinds
 use Rattle.pts_types.specs.Arithmetic.{least_i64}
 use Rattle.pts_tree.specs.Spelling.{if_there}
 use Rattle.pts_tree.specs.declared.sum.Sum.{Sum}
-use Rattle.pts_tree.specs.declared.sum.Val.{Val}
 use Rattle.pts_tree.specs.declared.sum.Range.{Range}
 use Rattle.pts_tree.specs.declared.sum.Cell.{Cell}
 use Rattle.pts_tree.specs.declared.call.Op.{Op}
@@ -31,7 +30,7 @@ use Rattle.pts_tree.specs.declared.script.Start.TheVariants as starts
 use Rattle.pts_tree.specs.declared.script.Item.{Item}
 use Rattle.pts_tree.specs.declared.script.Item.TheVariants as items
 use Rattle.pts_program.specs.Parts.{Name, Simple, Throw, Assign, Call, Loop, statements}
-use Rattle.pts_program.specs.Known.{Entry, Scope, Signature, Value, View, function_of, kind_of_array, view_of, has, holds, lies_in, is_place, is_number, same_kind, sum_is, number, val_fits}
+use Rattle.pts_program.specs.Known.{Entry, Scope, Value, View, function_of, kind_of_array, view_of, has, holds, lies_in, is_place, is_number, same_kind, sum_is, number, val_fits}
 use Rattle.pts_program.specs.Kinds.{fits, let_kind}
 use Rattle.pts_program.specs.Scopes.{known, param_entry}
 

@@ -1,5 +1,5 @@
 -- The statements of an item, and the names that it uses and binds.
-use Rattle.std.specs.Prelude.{ℕ, Bool, not, option_to_list, option_map, unwrap_or, Option, Some, None, List, [], ◌∷◌, ◌++◌, filter, flat_map}
+use Rattle.std.specs.Prelude.{ℕ, Bool, not, option_to_list, Option, Some, None, List, [], ◌∷◌, ◌++◌, filter, flat_map}
 use Rattle.std.specs.List.{list_any}
 use Rattle.std.specs.Str.{bytes_eq}
 use Rattle.pts_tree.specs.declared.sum.Atom.{Atom}
@@ -13,7 +13,7 @@ use Rattle.pts_tree.specs.declared.call.Op.{Op}
 use Rattle.pts_tree.specs.declared.call.Op.TheVariants as op_variants
 use Rattle.pts_tree.specs.declared.call.Call as call
 use Rattle.pts_tree.specs.declared.expr.Expr.{Expr}
-use Rattle.pts_tree.specs.declared.expr.Expr.TheOpen.{Expr-F, ChainPart-F}
+use Rattle.pts_tree.specs.declared.expr.Expr.TheOpen.{Expr-F}
 use Rattle.pts_tree.specs.declared.expr.Expr.TheFolds.{fold-Expr}
 use Rattle.pts_tree.specs.declared.expr.Place.{Place}
 use Rattle.pts_tree.specs.declared.loops.Loop as loops
@@ -25,9 +25,8 @@ use Rattle.pts_tree.specs.declared.loops.BodyStmt.{BodyStmt}
 use Rattle.pts_tree.specs.declared.loops.BodyStmt.TheOpen.{BodyStmt-F}
 use Rattle.pts_tree.specs.declared.loops.BodyStmt.TheFolds.{fold-BodyStmt}
 use Rattle.pts_tree.specs.declared.block.Block.{Block}
-use Rattle.pts_tree.specs.declared.block.TaskStmt.{TaskStmt}
-use Rattle.pts_tree.specs.declared.block.TaskStmt.TheOpen.{TaskStmt-F, Block-F}
-use Rattle.pts_tree.specs.declared.block.TaskStmt.TheFolds.{fold-TaskStmt, fold-Block}
+use Rattle.pts_tree.specs.declared.block.TaskStmt.TheOpen.{TaskStmt-F}
+use Rattle.pts_tree.specs.declared.block.TaskStmt.TheFolds.{fold-Block}
 use Rattle.pts_tree.specs.declared.script.Param.{Param}
 use Rattle.pts_tree.specs.declared.script.Start.{Start}
 use Rattle.pts_tree.specs.declared.script.Start.TheVariants as starts

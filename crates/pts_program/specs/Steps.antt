@@ -1,13 +1,9 @@
 -- BadStep, BackwardRange, LengthsDiffer and BadIdentity.
-use Rattle.std.specs.Prelude.{ℕ, Bool, true, false, not, ◌&&◌, ◌||◌, is_some, is_none, Option, Some, None, List, [], ◌∷◌, length, ℤ, pos, ◌-ℤ◌, int_lt}
+use Rattle.std.specs.Prelude.{Bool, false, not, ◌&&◌, ◌||◌, is_some, is_none, List, length, ℤ, pos, ◌-ℤ◌, int_lt}
 use Rattle.std.specs.List.{list_any}
 use Rattle.std.specs.Ordering.{int_eq}
-use Rattle.pts_tree.specs.Spelling.{if_there}
 use Rattle.pts_tree.specs.declared.sum.Range.{Range}
-use Rattle.pts_tree.specs.declared.call.Op.{Op}
 use Rattle.pts_tree.specs.declared.call.Op.TheVariants as op_variants
-use Rattle.pts_tree.specs.declared.call.Call as call
-use Rattle.pts_tree.specs.declared.loops.Loop as loops
 use Rattle.pts_tree.specs.declared.loops.Clause.{Clause}
 use Rattle.pts_tree.specs.declared.loops.Clause.TheVariants as clauses
 use Rattle.pts_tree.specs.declared.script.ArrayDecl.{ArrayDecl}
@@ -15,7 +11,7 @@ use Rattle.pts_tree.specs.declared.script.Start.{Start}
 use Rattle.pts_tree.specs.declared.script.Start.TheVariants as starts
 use Rattle.pts_tree.specs.declared.script.Item.{Item}
 use Rattle.pts_tree.specs.declared.script.Item.TheVariants as items
-use Rattle.pts_program.specs.Parts.{Simple, Throw, Assign, Call, Loop, statements}
+use Rattle.pts_program.specs.Parts.{Simple, Call, Loop, statements}
 use Rattle.pts_program.specs.Known.{Scope, has, number}
 use Rattle.pts_program.specs.Scopes.{known}
 

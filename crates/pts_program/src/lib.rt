@@ -5,4 +5,4 @@ mod fault;
 mod laws;
 
 pub use fault::BuildFault;
-pub use laws::one_fault;
+pub use laws::{a_fault_or_none, one_fault};
