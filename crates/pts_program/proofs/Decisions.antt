@@ -9,8 +9,8 @@ use Rattle.pts_tree.specs.declared.script.Item.{Item}
 use Rattle.pts_tree.specs.declared.script.Script.{Script}
 use Rattle.pts_program.specs.declared.fault.BuildFault.{BuildFault}
 use Rattle.pts_program.specs.Parts.{statements}
+use Rattle.pts_program.specs.Known.{natural}
 use Rattle.pts_program.specs.Scopes.{known}
-use Rattle.pts_program.specs.Mistyped.{natural}
 use Rattle.pts_program.specs.Indices.{Reach, Span, Along, leaves, reaches, is_out_at}
 use Rattle.pts_program.specs.Faults.{Rule, Unknown, Twice, Mistyped, TooDeep, TooMany, BadStep, BackwardRange, LengthsDiffer, BadIdentity, NotAffine, OutOfRange}
 use Rattle.pts_program.specs.Faults.{place_of, Breaks, BreaksAt, IsPosition, IsFaultAt, IsSound, item_at, items_before, fault_of}
@@ -193,8 +193,8 @@ fault-at script n none found =
         rule = found.0;
         position = at.0;
         breaks = found.1;
-        items = λ m other less h. none m less (other, h);
-        rules = found.2;
+        earlier_items = λ m other less h. none m less (other, h);
+        earlier_rules = found.2;
         first = at.1;
         named = refl;
       },

@@ -63,16 +63,16 @@ same-rule script n fault another a b e =
 by-place : (script : Script) (n : ℕ) (fault another : BuildFault) (a : IsFaultAt script n fault) (b : IsFaultAt script n another)
     → (place_of a.rule ≡ place_of b.rule) ⊎ ((place_of a.rule < place_of b.rule) ⊎ (place_of b.rule < place_of a.rule)) → fault ≡ another
 by-place script n fault another a b (inl e) = same-rule script n fault another a b (rule-by_place a.rule b.rule e)
-by-place script n fault another a b (inr (inl less)) = absurd (b.rules a.rule less a.breaks)
-by-place script n fault another a b (inr (inr more)) = absurd (a.rules b.rule more b.breaks)
+by-place script n fault another a b (inr (inl less)) = absurd (b.earlier_rules a.rule less a.breaks)
+by-place script n fault another a b (inr (inr more)) = absurd (a.earlier_rules b.rule more b.breaks)
 
 by-item : (script : Script) (n m : ℕ) (fault another : BuildFault) → IsFaultAt script n fault → IsFaultAt script m another
     → (n ≡ m) ⊎ ((n < m) ⊎ (m < n)) → (n ≡ m) × (fault ≡ another)
 by-item script n m fault another a b (inl e) =
     let c = subst (λ k. IsFaultAt script k another) (sym e) b in
     (e, by-place script n fault another a c (cases_order (place_of a.rule) (place_of c.rule)))
-by-item script n m fault another a b (inr (inl less)) = absurd (b.items n a.rule less a.breaks)
-by-item script n m fault another a b (inr (inr more)) = absurd (a.items m b.rule more b.breaks)
+by-item script n m fault another a b (inr (inl less)) = absurd (b.earlier_items n a.rule less a.breaks)
+by-item script n m fault another a b (inr (inr more)) = absurd (a.earlier_items m b.rule more b.breaks)
 
 -- two faults of a script name one item, and are one
 pub fault-unique : (script : Script) (n m : ℕ) (fault another : BuildFault) → IsFaultAt script n fault → IsFaultAt script m another → (n ≡ m) × (fault ≡ another)

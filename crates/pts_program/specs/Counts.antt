@@ -178,12 +178,12 @@ step_of scope None = pos 1
 step_of scope (Some x) = number scope x
 
 -- the step leads from a towards b
-abbrev pub leads : ℤ → ℤ → ℤ → Bool
-leads a b step = (int_lt (pos 0) step && int_lt a b) || (int_lt step (pos 0) && int_lt b a)
+abbrev pub leads_to : ℤ → ℤ → ℤ → Bool
+leads_to a b step = (int_lt (pos 0) step && int_lt a b) || (int_lt step (pos 0) && int_lt b a)
 
 -- how many numbers a, a + step, a + 2 * step and so on stand before b
 abbrev pub positions : ℤ → ℤ → ℤ → ℕ
-positions a b step = if leads a b step then 1 + (nat_abs (b -ℤ a) - 1) / nat_abs step else 0
+positions a b step = if leads_to a b step then 1 + (nat_abs (b -ℤ a) - 1) / nat_abs step else 0
 
 -- the positions of a loop; one whose step leads nowhere, or away from its end, has none
 abbrev pub loop_positions : Scope → loops.Loop → ℕ

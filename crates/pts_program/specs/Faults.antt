@@ -88,8 +88,8 @@ pub record IsFaultAt (script : Script) (n : ℕ) (fault : BuildFault) : Type 0 w
   pub rule : Rule
   pub position : ℕ
   pub breaks : BreaksAt script n rule
-  pub items : (m : ℕ) (other : Rule) → m < n → ¬ BreaksAt script m other
-  pub rules : (other : Rule) → place_of other < place_of rule → ¬ BreaksAt script n other
+  pub earlier_items : (m : ℕ) (other : Rule) → m < n → ¬ BreaksAt script m other
+  pub earlier_rules : (other : Rule) → place_of other < place_of rule → ¬ BreaksAt script n other
   pub first : HoldsOf script n (λ before x. IsPosition rule before x position)
   pub named : fault ≡ fault_of rule n position
 

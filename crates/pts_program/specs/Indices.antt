@@ -24,9 +24,8 @@ use Rattle.pts_tree.specs.declared.loops.BodyStmt.TheOpen.{BodyStmt-F}
 use Rattle.pts_tree.specs.declared.loops.BodyStmt.TheFolds.{fold-BodyStmt}
 use Rattle.pts_tree.specs.declared.script.Item.{Item}
 use Rattle.pts_program.specs.Parts.{Name, Simple, Throw, Assign, Call, Loop, statements}
-use Rattle.pts_program.specs.Known.{Scope, array_of, constant_of, has, holds, number}
+use Rattle.pts_program.specs.Known.{Scope, array_of, constant_of, has, holds, number, natural}
 use Rattle.pts_program.specs.Counts.{step_of, loop_positions}
-use Rattle.pts_program.specs.Mistyped.{natural}
 use Rattle.pts_program.specs.Scopes.{known}
 
 -- ---- indices
@@ -126,18 +125,18 @@ reading_step scope index _ = sloped None
 unfoldable pub slope_of : Scope → Option Name → Expr → Option Slope
 slope_of scope index x = (fold-Expr Reading (ScalarOp × Option Slope) (reading_step scope index) (λ part. (part.op, part.operand.slope)) x).slope
 
-abbrev pub is_crooked : Scope → Option Name → Place → Bool
-is_crooked scope index at = is_none (slope_of scope index at.index)
+abbrev pub lacks_slope : Scope → Option Name → Place → Bool
+lacks_slope scope index at = is_none (slope_of scope index at.index)
 
 -- an index of a loop's body, or of an element that an assignment reads, is not affine
-abbrev pub has_crooked : Scope → Simple → Bool
-has_crooked scope (Assign at x) = list_any (is_crooked scope None) (elements x)
-has_crooked scope (Loop x) = list_any (is_crooked scope (Some x.index)) (flat_map places x.body)
-has_crooked scope _ = false
+abbrev pub lacks_slopes : Scope → Simple → Bool
+lacks_slopes scope (Assign at x) = list_any (lacks_slope scope None) (elements x)
+lacks_slopes scope (Loop x) = list_any (lacks_slope scope (Some x.index)) (flat_map places x.body)
+lacks_slopes scope _ = false
 
 -- NotAffine: an index is not made of numbers, constants, the loop index, `+`, `-`, `*` and parentheses as a line
 abbrev pub is_not_affine : List Item → Item → Bool
-is_not_affine before x = list_any (has_crooked (known before)) (statements x)
+is_not_affine before x = list_any (lacks_slopes (known before)) (statements x)
 
 -- ---- where cells lie
 

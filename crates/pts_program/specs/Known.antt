@@ -118,6 +118,11 @@ abbrev pub is_number : Kind → Bool
 is_number kinds.Bool = false
 is_number _ = true
 
+-- a number, where one below 0 is taken as 0
+abbrev pub natural : ℤ → ℕ
+natural (pos n) = n
+natural _ = 0
+
 -- ---- sums
 
 -- a number, or the value of a constant

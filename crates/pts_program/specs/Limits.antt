@@ -4,9 +4,8 @@ use Rattle.std.specs.List.{list_any}
 use Rattle.pts_tree.specs.declared.script.Item.{Item}
 use Rattle.pts_tree.specs.declared.script.Item.TheVariants as items
 use Rattle.pts_program.specs.Parts.{Simple, Loop, statements}
-use Rattle.pts_program.specs.Known.{Scope, Meaning, Array}
+use Rattle.pts_program.specs.Known.{Scope, Meaning, Array, natural}
 use Rattle.pts_program.specs.Counts.{depth_of, size_of, nesting, runs, statement_points, loop_positions}
-use Rattle.pts_program.specs.Mistyped.{natural}
 use Rattle.pts_program.specs.Scopes.{known, after}
 
 -- TooDeep: calls of functions, or blocks, are more than 16 deep

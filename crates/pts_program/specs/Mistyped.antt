@@ -30,7 +30,7 @@ use Rattle.pts_tree.specs.declared.script.Start.TheVariants as starts
 use Rattle.pts_tree.specs.declared.script.Item.{Item}
 use Rattle.pts_tree.specs.declared.script.Item.TheVariants as items
 use Rattle.pts_program.specs.Parts.{Name, Simple, Throw, Assign, Call, Loop, statements}
-use Rattle.pts_program.specs.Known.{Entry, Scope, Value, View, function_of, kind_of_array, view_of, has, holds, lies_in, is_place, is_number, same_kind, sum_is, number, val_fits}
+use Rattle.pts_program.specs.Known.{Entry, Scope, Value, View, function_of, kind_of_array, view_of, has, holds, lies_in, is_place, is_number, same_kind, sum_is, natural, number, val_fits}
 use Rattle.pts_program.specs.Kinds.{fits, let_kind}
 use Rattle.pts_program.specs.Scopes.{known, param_entry}
 
@@ -137,16 +137,16 @@ body_scope scope x = (x.index, Value kinds.I64) ∷ fold (λ entries c. clause_e
 -- a statement of a body: whether it is right in a scope, and the scope that it leaves to the statements after it
 pub record Checked : Type 0 where
   pub right : Scope → Bool
-  pub leaves : Scope → Scope
+  pub behind : Scope → Scope
 
 -- each is right in the scope that those before it leave
 abbrev pub all_right : Scope → List Checked → Bool
 all_right scope [] = true
-all_right scope (x ∷ xs) = x.right scope && all_right (x.leaves scope) xs
+all_right scope (x ∷ xs) = x.right scope && all_right (x.behind scope) xs
 
 -- a statement that declares nothing
 abbrev pub checked : (Scope → Bool) → Checked
-checked right = record { right = right; leaves = λ scope. scope }
+checked right = record { right = right; behind = λ scope. scope }
 
 -- an array, and an expression of its elements' kind; the index is not typed
 abbrev pub assign_right : Scope → Place → Expr → Bool
@@ -158,7 +158,7 @@ ordered_right scope at x = has (λ kind. is_number kind && fits true scope kind 
 
 abbrev pub checked_step : BodyStmt-F Checked → Checked
 checked_step (BodyStmt-F.Assign at x) = checked (λ scope. assign_right scope at x)
-checked_step (BodyStmt-F.Let name x) = record { right = λ scope. fits true scope (let_kind scope x) x; leaves = λ scope. (name, Value (let_kind scope x)) ∷ scope }
+checked_step (BodyStmt-F.Let name x) = record { right = λ scope. fits true scope (let_kind scope x) x; behind = λ scope. (name, Value (let_kind scope x)) ∷ scope }
 checked_step (BodyStmt-F.Combine name x) = checked (λ scope. has (λ kind. fits true scope kind x) (view_of scope name))
 checked_step (BodyStmt-F.If x xs ys) = checked (λ scope. fits true scope kinds.Bool x && all_right scope xs && if_there (all_right scope) ys)
 checked_step (BodyStmt-F.VecOff xs) = checked (λ scope. all_right scope xs)
@@ -201,11 +201,6 @@ start_right scope kind length (starts.List xs) = list_all (val_fits scope kind) 
 start_right scope kind length (starts.Fill x) = val_fits scope kind x
 start_right scope kind length (starts.Iota x y) = iota_right scope kind length x y
 start_right scope kind length (starts.Mix x) = same_kind kind kinds.U64 && sum_is scope (holds kinds.U64) x
-
--- a number below 0 as 0
-abbrev pub natural : ℤ → ℕ
-natural (pos n) = n
-natural _ = 0
 
 -- a constant lies in one of `i64` and `u64`; a function's body has its kind and reads no elements
 abbrev pub item_right : Scope → Item → Bool

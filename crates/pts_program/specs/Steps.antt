@@ -16,11 +16,11 @@ use Rattle.pts_program.specs.Known.{Scope, has, number}
 use Rattle.pts_program.specs.Scopes.{known}
 
 -- the step of a loop from a to b is 0 or leads away from b
-abbrev pub misleads : ℤ → ℤ → ℤ → Bool
-misleads a b step = int_eq step (pos 0) || (int_lt a b && int_lt step (pos 0)) || (int_lt b a && int_lt (pos 0) step)
+abbrev pub is_wrong_step : ℤ → ℤ → ℤ → Bool
+is_wrong_step a b step = int_eq step (pos 0) || (int_lt a b && int_lt step (pos 0)) || (int_lt b a && int_lt (pos 0) step)
 
 abbrev pub steps_badly : Scope → Simple → Bool
-steps_badly scope (Loop x) = has (λ step. misleads (number scope x.low) (number scope x.high) (number scope step)) x.step
+steps_badly scope (Loop x) = has (λ step. is_wrong_step (number scope x.low) (number scope x.high) (number scope step)) x.step
 steps_badly scope _ = false
 
 -- BadStep: a loop's written step is 0 or leads away from its end
