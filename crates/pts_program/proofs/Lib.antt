@@ -1,3 +1,4 @@
 pub mod Decisions
 pub mod ExprFolds
 pub mod FirstFaults
+pub mod StatementFolds

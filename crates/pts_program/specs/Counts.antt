@@ -30,7 +30,7 @@ abbrev pub function_depth : Option Signature → ℕ
 function_depth None = 0
 function_depth (Some f) = f.depth
 
--- the greatest depth of the functions that an expression calls, 0 where it calls none
+-- a call has the depth of its function or of its arguments; an expression that calls none has 0
 abbrev pub calls_step : Scope → Expr-F ℕ ℕ → ℕ
 calls_step scope (Expr-F.Call name xs) = max (function_depth (function_of scope name)) (greatest xs)
 calls_step scope (Expr-F.Element name x) = x
@@ -45,9 +45,13 @@ calls_step scope (Expr-F.Any xs) = greatest xs
 calls_step scope (Expr-F.If x y z) = max x (max y z)
 calls_step scope _ = 0
 
+-- the greatest depth of the functions that an expression calls
+unfoldable pub called_depth : Scope → Expr → ℕ
+called_depth scope = fold-Expr ℕ ℕ (calls_step scope) (λ part. part.operand)
+
 -- the depth of a function with this body
-unfoldable pub depth_of : Scope → Expr → ℕ
-depth_of scope x = 1 + fold-Expr ℕ ℕ (calls_step scope) (λ part. part.operand) x
+abbrev pub depth_of : Scope → Expr → ℕ
+depth_of scope x = 1 + called_depth scope x
 
 abbrev pub function_size : Option Signature → ℕ
 function_size None = 0
@@ -82,9 +86,13 @@ size_step scope (Expr-F.Any xs) = sized (nodes_of xs + (length xs - 1))
 size_step scope (Expr-F.If x y z) = sized (1 + x.nodes + y.nodes + z.nodes)
 size_step scope _ = sized 1
 
--- the size of an expression whose calls are expanded
-unfoldable pub size_of : Scope → Expr → ℕ
-size_of scope x = (fold-Expr Size Size (size_step scope) (λ part. part.operand) x).nodes
+-- an expression by its size when its calls are expanded
+unfoldable pub sizing : Scope → Expr → Size
+sizing scope = fold-Expr Size Size (size_step scope) (λ part. part.operand)
+
+-- the size of a function with this body
+abbrev pub size_of : Scope → Expr → ℕ
+size_of scope x = (sizing scope x).nodes
 
 -- ---- blocks
 

@@ -121,9 +121,13 @@ reading_step scope index (Expr-F.Minus x) = sloped (minus_slope x.literal x.slop
 reading_step scope index (Expr-F.Chain x xs) = sloped (fold next_slope x.slope xs)
 reading_step scope index _ = sloped None
 
--- an expression as a line of this loop index, or without one; the scope is that of the globals
-unfoldable pub slope_of : Scope → Option Name → Expr → Option Slope
-slope_of scope index x = (fold-Expr Reading (ScalarOp × Option Slope) (reading_step scope index) (λ part. (part.op, part.operand.slope)) x).slope
+-- an expression, read with this loop index or without one; the scope is that of the globals
+unfoldable pub reading : Scope → Option Name → Expr → Reading
+reading scope index = fold-Expr Reading (ScalarOp × Option Slope) (reading_step scope index) (λ part. (part.op, part.operand.slope))
+
+-- the slope of an expression, if it is affine
+abbrev pub slope_of : Scope → Option Name → Expr → Option Slope
+slope_of scope index x = (reading scope index x).slope
 
 abbrev pub lacks_slope : Scope → Option Name → Place → Bool
 lacks_slope scope index at = is_none (slope_of scope index at.index)
