@@ -4,10 +4,10 @@ use Rattle.std.specs.Prelude.{flat_map}
 use Rattle.pts_types.specs.declared.value.Kind.{Kind}
 use Rattle.pts_types.specs.declared.operation.ScalarOp.{ScalarOp}
 use Rattle.pts_tree.specs.declared.expr.Expr.{Expr}
-use Rattle.pts_tree.specs.declared.expr.Expr.TheOpen.{Expr-F, ChainPart-F}
+use Rattle.pts_tree.specs.declared.expr.Expr.TheOpen.{Expr-F}
 use Rattle.pts_tree.specs.declared.expr.Expr.TheVariants as e
 use Rattle.pts_tree.specs.declared.expr.Expr.TheViews.{out-ChainPart, roll-out-ChainPart}
-use Rattle.pts_tree.specs.declared.expr.Expr.TheFolds.{para-Expr, para-ChainPart, para-roll-Expr, para-roll-ChainPart}
+use Rattle.pts_tree.specs.declared.expr.Expr.TheFolds.{para-ChainPart, para-roll-Expr, para-roll-ChainPart}
 use Rattle.pts_tree.specs.declared.expr.ChainPart.{ChainPart}
 use Rattle.pts_tree.specs.declared.expr.Place.{Place}
 use Rattle.pts_program.specs.Indices.{elements, elements_step}

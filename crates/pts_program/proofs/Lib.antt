@@ -1,4 +1,5 @@
 pub mod Decisions
+pub mod Edges
 pub mod Elements
 pub mod ExprFolds
 pub mod FirstFaults
