@@ -1,5 +1,5 @@
 -- What the rules say of small scripts at their edges.
-use Rattle.std.proofs.Common.{◌≡◌, ℕ, ◌-◌, ◌^◌, true, false, List, [], ◌∷◌, ◌++◌, refl, ap, ◌∙◌, Option, Some, None, pos, codes}
+use Rattle.std.proofs.Common.{◌≡◌, ℕ, ◌-◌, ◌^◌, true, false, List, [], ◌∷◌, ◌++◌, refl, ap, ◌∙◌, Option, Some, None, pos, codes, neg_ℤ, ◌+◌}
 use Rattle.std.specs.Prelude.{flat_map}
 use Rattle.std.specs.List.{list_any}
 use Rattle.pts_types.specs.declared.value.Kind.TheVariants as kinds
@@ -10,7 +10,11 @@ use Rattle.pts_tree.specs.declared.sum.Atom.TheVariants as atoms
 use Rattle.pts_tree.specs.declared.sum.Sum.{Sum}
 use Rattle.pts_tree.specs.declared.sum.Range.{Range}
 use Rattle.pts_tree.specs.declared.call.CallForm.TheVariants as forms
+use Rattle.pts_tree.specs.declared.call.Op.{Op}
 use Rattle.pts_tree.specs.declared.call.Op.TheVariants as operations
+use Rattle.pts_tree.specs.declared.loops.Clause.{Clause}
+use Rattle.pts_tree.specs.declared.loops.Clause.TheVariants as clauses
+use Rattle.pts_tree.specs.declared.sum.Val.{Val}
 use Rattle.pts_tree.specs.declared.sum.Val.TheVariants as vals
 use Rattle.pts_tree.specs.declared.script.Item.{Item}
 use Rattle.pts_tree.specs.declared.script.Item.TheVariants as items
@@ -29,7 +33,8 @@ use Rattle.pts_program.specs.Names.{is_unknown, is_twice}
 use Rattle.pts_program.specs.Kinds.{Typing, typing, typing_step, fits}
 use Rattle.pts_program.specs.Mistyped.{is_mistyped}
 use Rattle.pts_program.specs.Limits.{is_too_many}
-use Rattle.pts_program.specs.Steps.{lengths_differ, is_backward_range}
+use Rattle.pts_program.specs.Counts.{positions}
+use Rattle.pts_program.specs.Steps.{is_bad_step, is_bad_identity, lengths_differ, is_backward_range}
 use Rattle.pts_program.specs.Known.{Scope}
 use Rattle.pts_program.specs.Scopes.{known}
 use Rattle.pts_program.specs.Indices.{Reach, Along, leaves, reaches, place_reach, loop_line, Slope, Reading, reading, reading_step, slope_of, elements, places, places_step, is_out_at}
@@ -251,3 +256,70 @@ minus_zero = ap (λ x. x.fits kinds.U64) (negative 0)
 pub minus_paren : fits false [] kinds.U64 (e.Minus (e.Paren (e.Number 0))) ≡ false
 minus_paren =
     ap (λ x. x.fits kinds.U64) (typing-Minus (e.Paren (e.Number 0)) ∙ ap (λ x. typing_step false [] (Expr-F.Minus x)) (typing-Paren (e.Number 0)))
+
+-- ---- loops without a body
+
+-- for_loop par k = low to high step step { }
+abbrev empty_loop : Sum → Sum → Option Sum → List Clause → Item
+empty_loop low high step clauses = items.Loop (record { policy = policies.Par; index = codes "k"; low = low; high = high; step = step; clauses = clauses; body = [] })
+
+-- 0, 2 and 4 stand before 5, and 5, 3 and 1 before 0 on the way down
+pub rising-positions : positions (pos 0) (pos 5) (pos 2) ≡ 3
+rising-positions = refl
+
+pub falling-positions : positions (pos 5) (pos 0) (neg_ℤ (pos 2)) ≡ 3
+falling-positions = refl
+
+pub no-positions_away : positions (pos 5) (pos 0) (pos 2) ≡ 0
+no-positions_away = refl
+
+-- 1,048,576 positions, and one more
+pub positions-fit : is_too_many [] (empty_loop (number 0) (number (2 ^ 20)) None []) ≡ false
+unfolding known
+positions-fit = refl
+
+pub positions-too_many : is_too_many [] (empty_loop (number 0) (number (2 ^ 20 + 1)) None []) ≡ true
+unfolding known
+positions-too_many = refl
+
+-- a step of 0 is bad even where the loop is empty, and then any other step is good
+pub step-zero : is_bad_step [] (empty_loop (number 3) (number 3) (Some (number 0)) []) ≡ true
+unfolding known
+step-zero = refl
+
+pub step-empty : is_bad_step [] (empty_loop (number 3) (number 3) (Some (number 7)) []) ≡ false
+unfolding known
+step-empty = refl
+
+pub step-away : is_bad_step [] (empty_loop (number 3) (number 0) (Some (number 1)) []) ≡ true
+unfolding known
+step-away = refl
+
+-- without a written step the loop is no bad step but a backward range
+pub step-unwritten : is_bad_step [] (empty_loop (number 3) (number 0) None []) ≡ false
+unfolding known
+step-unwritten = refl
+
+pub loop-backward : is_backward_range [] (empty_loop (number 3) (number 0) None []) ≡ true
+unfolding known
+loop-backward = refl
+
+-- reduce a[index] op identity as v
+abbrev reduction : ℕ → Op → Option Val → Clause
+reduction index op identity = clauses.Reduce (record { cell = record { array = codes "a"; index = number index }; op = op; identity = identity; view = codes "v" })
+
+-- an operation of the table has no identity, and a function has one
+pub identity-of_plus : is_bad_identity [] (empty_loop (number 0) (number 1) None (reduction 0 (operations.Table ops.Plus) (Some (vals.Sum (number 0))) ∷ [])) ≡ true
+identity-of_plus = refl
+
+pub identity-of_function : is_bad_identity [] (empty_loop (number 0) (number 1) None (reduction 0 (operations.Name (codes "f")) None ∷ [])) ≡ true
+identity-of_function = refl
+
+-- the cell of a clause is looked at though the loop has no positions
+pub clause-out : is_out_at (array ∷ []) (empty_loop (number 0) (number 0) None (reduction 5 (operations.Table ops.Plus) None ∷ [])) 0 ≡ true
+unfolding known
+clause-out = refl
+
+-- the index is no name of the loop's head
+pub head-unknown : is_unknown [] (empty_loop (number 0) (record { negative = false; first = atoms.Name (codes "k"); rest = [] }) None []) ≡ true
+head-unknown = refl
