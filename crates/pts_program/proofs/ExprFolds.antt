@@ -1,5 +1,5 @@
 -- What a fold over an expression is at each form of it.
-use Rattle.std.proofs.Common.{◌≡◌, ℕ, List, map, sym, ap, ◌∙◌}
+use Rattle.std.proofs.Common.{◌≡◌, ℕ, List, [], ◌∷◌, map, refl, sym, ap, ◌∙◌}
 use Rattle.pts_types.specs.declared.value.Kind.{Kind}
 use Rattle.pts_types.specs.declared.operation.ScalarOp.{ScalarOp}
 use Rattle.pts_tree.specs.declared.expr.Expr.{Expr}
@@ -66,3 +66,15 @@ module _ (A B : Type 0) (step : Expr-F A B → A) (part_step : ChainPart-F A B �
 
   pub at-part : (x : ChainPart) → part_value x ≡ part_step (record { op = x.op; operand = value x.operand })
   at-part x = fold_out-ChainPart A B step part_step x
+
+-- where a part is what its operand is
+module _ (A : Type 0) (step : Expr-F A A → A) where
+  abbrev plain : Expr → A
+  plain = fold-Expr A A step (λ part. part.operand)
+
+  at-parts : (parts : List ChainPart) → map (part_value A A step (λ part. part.operand)) parts ≡ map (λ y. plain y.operand) parts
+  at-parts [] = refl
+  at-parts (x ∷ xs) = λ i. at-part A A step (λ part. part.operand) x i ∷ at-parts xs i
+
+  pub at-chain : (x : Expr) (parts : List ChainPart) → plain (e.Chain x parts) ≡ step (Expr-F.Chain (plain x) (map (λ y. plain y.operand) parts))
+  at-chain x parts = at-Chain A A step (λ part. part.operand) x parts ∙ ap (λ xs. step (Expr-F.Chain (plain x) xs)) (at-parts parts)
