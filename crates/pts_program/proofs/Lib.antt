@@ -1,0 +1,11 @@
+pub mod Decisions
+pub mod Depths
+pub mod Edges
+pub mod ElementCounts
+pub mod Elements
+pub mod ExprFolds
+pub mod ExprNames
+pub mod FirstFaults
+pub mod Sizes
+pub mod StatementFolds
+pub mod Typings
