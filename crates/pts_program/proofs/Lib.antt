@@ -1,3 +1,4 @@
+pub mod Bodies
 pub mod Decisions
 pub mod Depths
 pub mod Edges
@@ -8,4 +9,5 @@ pub mod ExprNames
 pub mod FirstFaults
 pub mod Sizes
 pub mod StatementFolds
+pub mod Tasks
 pub mod Typings
