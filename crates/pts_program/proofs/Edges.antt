@@ -43,11 +43,11 @@ use Rattle.pts_program.proofs.StatementFolds as statement
 use Rattle.pts_program.proofs.Elements.{elements-Name, elements-Number, elements-Element, elements-Chain}
 
 -- the sum of one number
-abbrev number : ℕ → Sum
+abbrev pub number : ℕ → Sum
 number n = record { negative = false; first = atoms.Number n; rest = [] }
 
 -- array a: u64[5] = fill 0;
-abbrev array : Item
+abbrev pub array : Item
 array = items.Array (record { name = codes "a"; kind = kinds.U64; length = number 5; start = starts.Fill (vals.Sum (number 0)) })
 
 -- ---- the last position of a loop
