@@ -37,7 +37,7 @@ use Rattle.pts_program.specs.Counts.{positions}
 use Rattle.pts_program.specs.Steps.{is_bad_step, is_bad_identity, lengths_differ, is_backward_range}
 use Rattle.pts_program.specs.Known.{Scope}
 use Rattle.pts_program.specs.Scopes.{known}
-use Rattle.pts_program.specs.Indices.{Reach, Along, leaves, reaches, place_reach, loop_line, Slope, Reading, reading, reading_step, slope_of, elements, places, places_step, is_out_at}
+use Rattle.pts_program.specs.Indices.{Reach, Along, leaves, reaches, place_reach, loop_line, Affine, Reading, reading, reading_step, affine_of, elements, places, places_step, is_out_at}
 use Rattle.pts_program.proofs.ExprFolds as expr
 use Rattle.pts_program.proofs.StatementFolds as statement
 use Rattle.pts_program.proofs.Elements.{elements-Name, elements-Number, elements-Element, elements-Chain}
@@ -77,39 +77,39 @@ places-shift =
 globals : Scope
 globals = known (array ∷ [])
 
-slope-index : slope_of globals (Some (codes "i")) (e.Name (codes "i")) ≡ Some (record { factor = pos 1; offset = pos 0 })
+affine-index : affine_of globals (Some (codes "i")) (e.Name (codes "i")) ≡ Some (record { factor = pos 1; offset = pos 0 })
 unfolding globals reading
-slope-index = ap (λ r. r.slope) (expr.at-Name Reading (ScalarOp × Option Slope) (reading_step globals (Some (codes "i"))) (λ part. (part.op, part.operand.slope)) (codes "i"))
+affine-index = ap (λ r. r.affine) (expr.at-Name Reading (ScalarOp × Option Affine) (reading_step globals (Some (codes "i"))) (λ part. (part.op, part.operand.affine)) (codes "i"))
 
 -- `i + 1` from the reading of its parts
-slope-next : slope_of globals (Some (codes "i")) next ≡ Some (record { factor = pos 1; offset = pos 1 })
+affine-next : affine_of globals (Some (codes "i")) next ≡ Some (record { factor = pos 1; offset = pos 1 })
 unfolding globals reading known
-slope-next =
-    ap (λ r. r.slope) (expr.at-Chain Reading (ScalarOp × Option Slope) step part_step (e.Name (codes "i")) (record { op = ops.Plus; operand = e.Number 1 } ∷ []))
-    ∙ ap (λ r. (step (Expr-F.Chain r (part_value ∷ []))).slope) (expr.at-Name Reading (ScalarOp × Option Slope) step part_step (codes "i"))
-    ∙ ap (λ r. (step (Expr-F.Chain (step (Expr-F.Name (codes "i"))) (r ∷ []))).slope)
-    (expr.at-part Reading (ScalarOp × Option Slope) step part_step (record { op = ops.Plus; operand = e.Number 1 })
-    ∙ ap (λ r. part_step (record { op = ops.Plus; operand = r })) (expr.at-Number Reading (ScalarOp × Option Slope) step part_step 1))
+affine-next =
+    ap (λ r. r.affine) (expr.at-Chain Reading (ScalarOp × Option Affine) step part_step (e.Name (codes "i")) (record { op = ops.Plus; operand = e.Number 1 } ∷ []))
+    ∙ ap (λ r. (step (Expr-F.Chain r (part_value ∷ []))).affine) (expr.at-Name Reading (ScalarOp × Option Affine) step part_step (codes "i"))
+    ∙ ap (λ r. (step (Expr-F.Chain (step (Expr-F.Name (codes "i"))) (r ∷ []))).affine)
+    (expr.at-part Reading (ScalarOp × Option Affine) step part_step (record { op = ops.Plus; operand = e.Number 1 })
+    ∙ ap (λ r. part_step (record { op = ops.Plus; operand = r })) (expr.at-Number Reading (ScalarOp × Option Affine) step part_step 1))
   where
-    step : Expr-F Reading (ScalarOp × Option Slope) → Reading
+    step : Expr-F Reading (ScalarOp × Option Affine) → Reading
     step = reading_step globals (Some (codes "i"))
 
-    part_step : ChainPart-F Reading (ScalarOp × Option Slope) → ScalarOp × Option Slope
-    part_step part = (part.op, part.operand.slope)
+    part_step : ChainPart-F Reading (ScalarOp × Option Affine) → ScalarOp × Option Affine
+    part_step part = (part.op, part.operand.affine)
 
-    part_value : ScalarOp × Option Slope
-    part_value = fold-ChainPart Reading (ScalarOp × Option Slope) step part_step (record { op = ops.Plus; operand = e.Number 1 })
+    part_value : ScalarOp × Option Affine
+    part_value = fold-ChainPart Reading (ScalarOp × Option Affine) step part_step (record { op = ops.Plus; operand = e.Number 1 })
 
--- the reaches of an index with this slope
-lined : Option Slope → List Reach
-lined slope = elim slope [ None ↦ [] | Some x ↦ Along (loop_line globals loop x) (pos 5) ∷ [] ]
+-- the reach of an index with this factor and offset
+lined : Option Affine → List Reach
+lined affine = elim affine [ None ↦ [] | Some x ↦ Along (loop_line globals loop x) (pos 5) ∷ [] ]
 
 -- cell p and cell p + 1 at position p below 5
 reaches-shifts : reaches globals (Loop loop) ≡ Along (record { c = pos 1; d = pos 0; n = 5 }) (pos 5) ∷ Along (record { c = pos 1; d = pos 1; n = 5 }) (pos 5) ∷ []
 unfolding globals known lined
 reaches-shifts =
     ap (λ xs. flat_map (place_reach globals (loop_line globals loop) (Some (codes "i"))) (xs ++ [])) places-shift
-    ∙ (λ i. ap lined slope-index i ++ (ap lined slope-next i ++ []))
+    ∙ (λ i. ap lined affine-index i ++ (ap lined affine-next i ++ []))
 
 -- `a[i+1]` is out at position 4, and nothing is at 3
 pub out-at_last : is_out_at (array ∷ []) (items.Loop loop) 4 ≡ true

@@ -7,6 +7,7 @@ pub mod Elements
 pub mod ExprFolds
 pub mod ExprNames
 pub mod FirstFaults
+pub mod Readings
 pub mod ScopeEdges
 pub mod Sizes
 pub mod StatementFolds
