@@ -1,5 +1,5 @@
 -- Each rule decides each item, so a script has a fault or breaks no rule.
-use Rattle.std.proofs.Common.{◌≡◌, ℕ, zero, suc, ◌+◌, ◌<◌, ◌≤◌, ◌⊎◌, inl, inr, Bool, true, false, IsTrue, IsSomeAnd, Option, Some, None, List, [], ◌∷◌, length, refl, sym, ap, ◌∙◌, subst, arith}
+use Rattle.std.proofs.Common.{◌≡◌, ℕ, zero, suc, ◌+◌, ◌<◌, ◌≤◌, ◌⊎◌, inl, inr, Bool, true, false, IsTrue, IsSomeAnd, Option, Some, None, List, [], ◌∷◌, length, refl, sym, ap, ◌∙◌, subst, arith, ◌↔◌, take, ◌-◌, slice_get}
 use Rattle.std.specs.Prelude.{◌-ℤ◌}
 use Rattle.std.specs.List.{list_any}
 use Rattle.std.proofs.lemmas.Bool.{cases_lt, or_cases, false≢true}
@@ -227,3 +227,14 @@ decided-script script =
 -- not both
 pub fault-or_sound : (script : Script) (n : ℕ) (fault : BuildFault) → IsFaultAt script n fault → ¬ IsSound script
 fault-or_sound script n fault a = λ sound. sound n a.rule a.breaks
+
+-- ---- items by their places in the list
+
+-- the item at place k, from 0, is item k + 1, and the first k stand before it
+pub breaks-at : (script : Script) (k : ℕ) (x : Item) (rule : Rule) → slice_get script.items k ≡ Some x → BreaksAt script (k + 1) rule ↔ Breaks rule (take k script.items) x
+breaks-at script k x rule e =
+    let same : k + 1 ≡ suc k = omega arith in
+    let before : suc k - 1 ≡ k = omega arith in (
+      λ h. subst (λ m. Breaks rule (take m script.items) x) before (subst (λ o. IsSomeAnd o (Breaks rule (take (suc k - 1) script.items))) e (subst (λ n. BreaksAt script n rule) same h)),
+      λ h. subst (λ n. BreaksAt script n rule) (sym same) (subst (λ o. IsSomeAnd o (Breaks rule (take (suc k - 1) script.items))) (sym e) (subst (λ m. Breaks rule (take m script.items) x) (sym before) h)),
+    )

@@ -3,7 +3,6 @@ use Rattle.std.proofs.Common.{◌≡◌, ℕ, ◌-◌, ◌^◌, true, false, Lis
 use Rattle.std.specs.Prelude.{flat_map}
 use Rattle.std.specs.List.{list_any}
 use Rattle.pts_types.specs.declared.value.Kind.TheVariants as kinds
-use Rattle.pts_types.specs.declared.operation.ScalarOp.{ScalarOp}
 use Rattle.pts_types.specs.declared.operation.ScalarOp.TheVariants as ops
 use Rattle.pts_types.specs.declared.operation.Policy.TheVariants as policies
 use Rattle.pts_tree.specs.declared.sum.Atom.TheVariants as atoms
@@ -21,33 +20,34 @@ use Rattle.pts_tree.specs.declared.script.Item.TheVariants as items
 use Rattle.pts_tree.specs.declared.script.Start.{Start}
 use Rattle.pts_tree.specs.declared.script.Start.TheVariants as starts
 use Rattle.pts_tree.specs.declared.expr.Expr.{Expr}
-use Rattle.pts_tree.specs.declared.expr.Expr.TheOpen.{Expr-F, ChainPart-F}
-use Rattle.pts_tree.specs.declared.expr.Expr.TheFolds.{fold-ChainPart}
+use Rattle.pts_tree.specs.declared.expr.Expr.TheOpen.{Expr-F}
 use Rattle.pts_tree.specs.declared.expr.Expr.TheVariants as e
-use Rattle.pts_tree.specs.declared.expr.Place.{Place}
 use Rattle.pts_tree.specs.declared.loops.Loop as loops
 use Rattle.pts_tree.specs.declared.loops.BodyStmt.{BodyStmt}
 use Rattle.pts_tree.specs.declared.loops.BodyStmt.TheVariants as b
-use Rattle.pts_program.specs.Parts.{Loop, Name, expr_names, expr_names_step}
+use Rattle.pts_program.specs.Parts.{Loop, expr_names}
 use Rattle.pts_program.specs.Names.{is_unknown, is_twice}
-use Rattle.pts_program.specs.Kinds.{Typing, typing, typing_step, fits}
+use Rattle.pts_program.specs.Kinds.{typing, typing_step, fits}
 use Rattle.pts_program.specs.Mistyped.{is_mistyped}
 use Rattle.pts_program.specs.Limits.{is_too_many}
-use Rattle.pts_program.specs.Counts.{positions}
+use Rattle.pts_program.specs.Counts.{positions, size_of, size_step}
 use Rattle.pts_program.specs.Steps.{is_bad_step, is_bad_identity, lengths_differ, is_backward_range}
-use Rattle.pts_program.specs.Known.{Scope}
+use Rattle.pts_program.specs.Known.{Scope, Value}
 use Rattle.pts_program.specs.Scopes.{known}
-use Rattle.pts_program.specs.Indices.{Reach, Along, leaves, reaches, place_reach, loop_line, Slope, Reading, reading, reading_step, slope_of, elements, places, places_step, is_out_at}
-use Rattle.pts_program.proofs.ExprFolds as expr
-use Rattle.pts_program.proofs.StatementFolds as statement
+use Rattle.pts_program.specs.Indices.{Reach, Along, leaves, reaches, place_reach, loop_line, Affine, reading_step, affine_of, elements, places, is_out_at}
+use Rattle.pts_program.proofs.ExprNames.{names-Call, names-Name}
+use Rattle.pts_program.proofs.Readings.{reading-Name, reading-Number, reading-Chain}
+use Rattle.pts_program.proofs.Typings.{typing-Number, typing-Name, typing-Minus, typing-Paren, typing-Chain, typing-Compare}
+use Rattle.pts_program.proofs.Sizes.{size-Number, size-Name, size-Chain}
+use Rattle.pts_program.proofs.Bodies.{places-Assign}
 use Rattle.pts_program.proofs.Elements.{elements-Name, elements-Number, elements-Element, elements-Chain}
 
 -- the sum of one number
-abbrev number : ℕ → Sum
+abbrev pub number : ℕ → Sum
 number n = record { negative = false; first = atoms.Number n; rest = [] }
 
 -- array a: u64[5] = fill 0;
-abbrev array : Item
+abbrev pub array : Item
 array = items.Array (record { name = codes "a"; kind = kinds.U64; length = number 5; start = starts.Fill (vals.Sum (number 0)) })
 
 -- ---- the last position of a loop
@@ -70,46 +70,34 @@ elements-next = elements-Chain (e.Name (codes "i")) (record { op = ops.Plus; ope
 places-shift : places shift ≡ record { array = codes "a"; index = e.Name (codes "i") } ∷ record { array = codes "a"; index = next } ∷ []
 unfolding places
 places-shift =
-    statement.at-Assign (List Place) places_step (record { array = codes "a"; index = e.Name (codes "i") }) (e.Element (codes "a") next)
+    places-Assign (record { array = codes "a"; index = e.Name (codes "i") }) (e.Element (codes "a") next)
     ∙ (λ i. (record { array = codes "a"; index = e.Name (codes "i") } ∷ elements-Name (codes "i") i) ++ (elements-Element (codes "a") next ∙ ap (λ xs. record { array = codes "a"; index = next } ∷ xs) elements-next) i)
 
 -- what the name before the loop stands for
 globals : Scope
 globals = known (array ∷ [])
 
-slope-index : slope_of globals (Some (codes "i")) (e.Name (codes "i")) ≡ Some (record { factor = pos 1; offset = pos 0 })
-unfolding globals reading
-slope-index = ap (λ r. r.slope) (expr.at-Name Reading (ScalarOp × Option Slope) (reading_step globals (Some (codes "i"))) (λ part. (part.op, part.operand.slope)) (codes "i"))
+affine-index : affine_of globals (Some (codes "i")) (e.Name (codes "i")) ≡ Some (record { factor = pos 1; offset = pos 0 })
+unfolding globals
+affine-index = ap (λ r. r.affine) (reading-Name globals (Some (codes "i")) (codes "i"))
 
--- `i + 1` from the reading of its parts
-slope-next : slope_of globals (Some (codes "i")) next ≡ Some (record { factor = pos 1; offset = pos 1 })
-unfolding globals reading known
-slope-next =
-    ap (λ r. r.slope) (expr.at-Chain Reading (ScalarOp × Option Slope) step part_step (e.Name (codes "i")) (record { op = ops.Plus; operand = e.Number 1 } ∷ []))
-    ∙ ap (λ r. (step (Expr-F.Chain r (part_value ∷ []))).slope) (expr.at-Name Reading (ScalarOp × Option Slope) step part_step (codes "i"))
-    ∙ ap (λ r. (step (Expr-F.Chain (step (Expr-F.Name (codes "i"))) (r ∷ []))).slope)
-    (expr.at-part Reading (ScalarOp × Option Slope) step part_step (record { op = ops.Plus; operand = e.Number 1 })
-    ∙ ap (λ r. part_step (record { op = ops.Plus; operand = r })) (expr.at-Number Reading (ScalarOp × Option Slope) step part_step 1))
-  where
-    step : Expr-F Reading (ScalarOp × Option Slope) → Reading
-    step = reading_step globals (Some (codes "i"))
+affine-next : affine_of globals (Some (codes "i")) next ≡ Some (record { factor = pos 1; offset = pos 1 })
+unfolding globals known
+affine-next =
+    ap (λ r. r.affine) (reading-Chain globals (Some (codes "i")) (e.Name (codes "i")) (record { op = ops.Plus; operand = e.Number 1 } ∷ []))
+    ∙ (λ i. (reading_step globals (Some (codes "i")) (Expr-F.Chain (reading-Name globals (Some (codes "i")) (codes "i") i)
+    ((ops.Plus, (reading-Number globals (Some (codes "i")) 1 i).affine) ∷ []))).affine)
 
-    part_step : ChainPart-F Reading (ScalarOp × Option Slope) → ScalarOp × Option Slope
-    part_step part = (part.op, part.operand.slope)
-
-    part_value : ScalarOp × Option Slope
-    part_value = fold-ChainPart Reading (ScalarOp × Option Slope) step part_step (record { op = ops.Plus; operand = e.Number 1 })
-
--- the reaches of an index with this slope
-lined : Option Slope → List Reach
-lined slope = elim slope [ None ↦ [] | Some x ↦ Along (loop_line globals loop x) (pos 5) ∷ [] ]
+-- the reach of an index with this factor and offset
+lined : Option Affine → List Reach
+lined affine = elim affine [ None ↦ [] | Some x ↦ Along (loop_line globals loop x) (pos 5) ∷ [] ]
 
 -- cell p and cell p + 1 at position p below 5
 reaches-shifts : reaches globals (Loop loop) ≡ Along (record { c = pos 1; d = pos 0; n = 5 }) (pos 5) ∷ Along (record { c = pos 1; d = pos 1; n = 5 }) (pos 5) ∷ []
 unfolding globals known lined
 reaches-shifts =
     ap (λ xs. flat_map (place_reach globals (loop_line globals loop) (Some (codes "i"))) (xs ++ [])) places-shift
-    ∙ (λ i. ap lined slope-index i ++ (ap lined slope-next i ++ []))
+    ∙ (λ i. ap lined affine-index i ++ (ap lined affine-next i ++ []))
 
 -- `a[i+1]` is out at position 4, and nothing is at 3
 pub out-at_last : is_out_at (array ∷ []) (items.Loop loop) 4 ≡ true
@@ -127,10 +115,7 @@ abbrev calls_itself : Item
 calls_itself = items.Function (record { name = codes "f"; params = record { name = codes "x"; kind = kinds.U64 } ∷ []; kind = kinds.U64; body = e.Call (codes "f") (e.Name (codes "x") ∷ []) })
 
 names-of_call : expr_names (e.Call (codes "f") (e.Name (codes "x") ∷ [])) ≡ codes "f" ∷ codes "x" ∷ []
-unfolding expr_names
-names-of_call =
-    expr.at-Call (List Name) (List Name) expr_names_step (λ part. part.operand) (codes "f") (e.Name (codes "x") ∷ [])
-    ∙ ap (λ xs. codes "f" ∷ xs ++ []) (expr.at-Name (List Name) (List Name) expr_names_step (λ part. part.operand) (codes "x"))
+names-of_call = names-Call (codes "f") (e.Name (codes "x") ∷ []) ∙ ap (λ xs. codes "f" ∷ xs ++ []) (names-Name (codes "x"))
 
 -- a function does not know its own name
 pub unknown-own : is_unknown [] calls_itself ≡ true
@@ -229,21 +214,9 @@ rising-leaves = refl
 
 -- ---- kinds
 
-typing-Number : (n : ℕ) → typing false [] (e.Number n) ≡ typing_step false [] (Expr-F.Number n)
-unfolding typing
-typing-Number n = expr.at-Number Typing Typing (typing_step false []) (λ part. part.operand) n
-
-typing-Minus : (x : Expr) → typing false [] (e.Minus x) ≡ typing_step false [] (Expr-F.Minus (typing false [] x))
-unfolding typing
-typing-Minus x = expr.at-Minus Typing Typing (typing_step false []) (λ part. part.operand) x
-
-typing-Paren : (x : Expr) → typing false [] (e.Paren x) ≡ typing_step false [] (Expr-F.Paren (typing false [] x))
-unfolding typing
-typing-Paren x = expr.at-Paren Typing Typing (typing_step false []) (λ part. part.operand) x
-
 -- `-n` is one number
 negative : (n : ℕ) → typing false [] (e.Minus (e.Number n)) ≡ typing_step false [] (Expr-F.Minus (typing_step false [] (Expr-F.Number n)))
-negative n = typing-Minus (e.Number n) ∙ ap (λ x. typing_step false [] (Expr-F.Minus x)) (typing-Number n)
+negative n = typing-Minus false [] (e.Number n) ∙ ap (λ x. typing_step false [] (Expr-F.Minus x)) (typing-Number false [] n)
 
 -- -1 is no `u64`, and -0 is one
 pub minus_one : fits false [] kinds.U64 (e.Minus (e.Number 1)) ≡ false
@@ -255,7 +228,38 @@ minus_zero = ap (λ x. x.fits kinds.U64) (negative 0)
 -- -(0) is an `i64`, and no `u64`
 pub minus_paren : fits false [] kinds.U64 (e.Minus (e.Paren (e.Number 0))) ≡ false
 minus_paren =
-    ap (λ x. x.fits kinds.U64) (typing-Minus (e.Paren (e.Number 0)) ∙ ap (λ x. typing_step false [] (Expr-F.Minus x)) (typing-Paren (e.Number 0)))
+    ap (λ x. x.fits kinds.U64) (typing-Minus false [] (e.Paren (e.Number 0)) ∙ ap (λ x. typing_step false [] (Expr-F.Minus x)) (typing-Paren false [] (e.Number 0)))
+
+-- both sides of `-1 == -1` are bare, so they are of kind `u64`, which has no -1
+pub bare-sides : fits false [] kinds.Bool (e.Compare ops.Equal (e.Minus (e.Number 1)) (e.Minus (e.Number 1))) ≡ false
+bare-sides =
+    ap (λ x. x.fits kinds.Bool) (typing-Compare false [] ops.Equal (e.Minus (e.Number 1)) (e.Minus (e.Number 1))
+    ∙ (λ i. typing_step false [] (Expr-F.Compare ops.Equal (negative 1 i) (negative 1 i))))
+
+-- x: u64
+abbrev params : Scope
+params = (codes "x", Value kinds.U64) ∷ []
+
+-- `1 + x` has the kind of x
+abbrev one_more : Expr
+one_more = e.Chain (e.Number 1) (record { op = ops.Plus; operand = e.Name (codes "x") } ∷ [])
+
+typing-one_more : typing false params one_more ≡ typing_step false params (Expr-F.Chain (typing_step false params (Expr-F.Number 1)) (typing_step false params (Expr-F.Name (codes "x")) ∷ []))
+typing-one_more =
+    typing-Chain false params (e.Number 1) (record { op = ops.Plus; operand = e.Name (codes "x") } ∷ [])
+    ∙ (λ i. typing_step false params (Expr-F.Chain (typing-Number false params 1 i) (typing-Name false params (codes "x") i ∷ [])))
+
+pub chain-fits : fits false params kinds.U64 one_more ≡ true
+chain-fits = ap (λ x. x.fits kinds.U64) typing-one_more
+
+pub chain-fits_no_other : fits false params kinds.I64 one_more ≡ false
+chain-fits_no_other = ap (λ x. x.fits kinds.I64) typing-one_more
+
+-- its size is 3, and it calls nothing
+pub chain-size : size_of params one_more ≡ 3
+chain-size =
+    ap (λ x. x.nodes) (size-Chain params (e.Number 1) (record { op = ops.Plus; operand = e.Name (codes "x") } ∷ [])
+    ∙ (λ i. size_step params (Expr-F.Chain (size-Number params 1 i) (size-Name params (codes "x") i ∷ []))))
 
 -- ---- loops without a body
 

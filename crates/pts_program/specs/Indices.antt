@@ -68,16 +68,16 @@ places = fold-BodyStmt (List Place) places_step
 -- ---- affine expressions
 
 -- factor * i + offset, where i is the loop index
-pub record Slope : Type 0 where
+pub record Affine : Type 0 where
   pub factor : ℤ
   pub offset : ℤ
 
 -- the same, where both lie in `i64`
-abbrev pub kept : ℤ → ℤ → Option Slope
+abbrev pub kept : ℤ → ℤ → Option Affine
 kept factor offset = if holds kinds.I64 factor && holds kinds.I64 offset then Some (record { factor = factor; offset = offset }) else None
 
 -- a sum, a difference, or a product that has a side without the loop index
-abbrev pub combined : ScalarOp → Slope → Slope → Option Slope
+abbrev pub combined : ScalarOp → Affine → Affine → Option Affine
 combined ops.Plus x y = kept (x.factor +ℤ y.factor) (x.offset +ℤ y.offset)
 combined ops.Minus x y = kept (x.factor -ℤ y.factor) (x.offset -ℤ y.offset)
 combined ops.Multiplies x y =
@@ -86,61 +86,62 @@ combined ops.Multiplies x y =
     else None
 combined op x y = None
 
--- an expression by its literal number (a NUMBER or a constant name alone) and its slope, if it is affine
+-- an expression by its literal number (a NUMBER or a constant name alone) and its factor and offset, if it is affine
 pub record Reading : Type 0 where
   pub literal : Option ℤ
-  pub slope : Option Slope
+  pub affine : Option Affine
 
-abbrev pub sloped : Option Slope → Reading
-sloped slope = record { literal = None; slope = slope }
+abbrev pub affine_reading : Option Affine → Reading
+affine_reading affine = record { literal = None; affine = affine }
 
 abbrev pub number_reading : Option ℤ → Reading
-number_reading None = sloped None
-number_reading (Some z) = record { literal = Some z; slope = kept (pos 0) z }
+number_reading None = affine_reading None
+number_reading (Some z) = record { literal = Some z; affine = kept (pos 0) z }
 
 -- the loop index is 1 * i + 0; a constant is its value; no other name is affine
 abbrev pub name_reading : Bool → Option ℤ → Reading
-name_reading true z = sloped (kept (pos 1) (pos 0))
+name_reading true z = affine_reading (kept (pos 1) (pos 0))
 name_reading false z = number_reading z
 
 -- `-` before a number or a constant name is one number
-abbrev pub minus_slope : Option ℤ → Option Slope → Option Slope
-minus_slope (Some z) x = kept (pos 0) (neg_ℤ z)
-minus_slope None x = option_and_then (λ y. kept (neg_ℤ y.factor) (neg_ℤ y.offset)) x
+abbrev pub minus_affine : Option ℤ → Option Affine → Option Affine
+minus_affine (Some z) x = kept (pos 0) (neg_ℤ z)
+minus_affine None x = option_and_then (λ y. kept (neg_ℤ y.factor) (neg_ℤ y.offset)) x
 
 -- a chain so far, and an operator with its operand
-abbrev pub next_slope : Option Slope → ScalarOp × Option Slope → Option Slope
-next_slope x part = option_and_then (λ y. option_and_then (combined part.0 y) part.1) x
+abbrev pub next_affine : Option Affine → ScalarOp × Option Affine → Option Affine
+next_affine x part = option_and_then (λ y. option_and_then (combined part.0 y) part.1) x
 
 -- one case for each form that is affine; every number on the way lies in `i64`
-abbrev pub reading_step : Scope → Option Name → Expr-F Reading (ScalarOp × Option Slope) → Reading
+abbrev pub reading_step : Scope → Option Name → Expr-F Reading (ScalarOp × Option Affine) → Reading
 reading_step scope index (Expr-F.Number n) = number_reading (Some (pos n))
 reading_step scope index (Expr-F.Name name) = name_reading (has (bytes_eq name) index) (constant_of scope name)
-reading_step scope index (Expr-F.Paren x) = sloped x.slope
-reading_step scope index (Expr-F.Minus x) = sloped (minus_slope x.literal x.slope)
-reading_step scope index (Expr-F.Chain x xs) = sloped (fold next_slope x.slope xs)
-reading_step scope index _ = sloped None
+reading_step scope index (Expr-F.Paren x) = affine_reading x.affine
+reading_step scope index (Expr-F.Minus x) = affine_reading (minus_affine x.literal x.affine)
+reading_step scope index (Expr-F.Chain x xs) = affine_reading (fold next_affine x.affine xs)
+reading_step scope index _ = affine_reading None
 
 -- an expression, read with this loop index or without one; the scope is that of the globals
 unfoldable pub reading : Scope → Option Name → Expr → Reading
-reading scope index = fold-Expr Reading (ScalarOp × Option Slope) (reading_step scope index) (λ part. (part.op, part.operand.slope))
+reading scope index = fold-Expr Reading (ScalarOp × Option Affine) (reading_step scope index) (λ part. (part.op, part.operand.affine))
 
--- the slope of an expression, if it is affine
-abbrev pub slope_of : Scope → Option Name → Expr → Option Slope
-slope_of scope index x = (reading scope index x).slope
+-- the factor and the offset of an expression, if it is affine
+abbrev pub affine_of : Scope → Option Name → Expr → Option Affine
+affine_of scope index x = (reading scope index x).affine
 
-abbrev pub lacks_slope : Scope → Option Name → Place → Bool
-lacks_slope scope index at = is_none (slope_of scope index at.index)
+-- the index of an element has no factor and offset
+abbrev pub index_not_affine : Scope → Option Name → Place → Bool
+index_not_affine scope index at = is_none (affine_of scope index at.index)
 
 -- an index of a loop's body, or of an element that an assignment reads, is not affine
-abbrev pub lacks_slopes : Scope → Simple → Bool
-lacks_slopes scope (Assign at x) = list_any (lacks_slope scope None) (elements x)
-lacks_slopes scope (Loop x) = list_any (lacks_slope scope (Some x.index)) (flat_map places x.body)
-lacks_slopes scope _ = false
+abbrev pub has_not_affine : Scope → Simple → Bool
+has_not_affine scope (Assign at x) = list_any (index_not_affine scope None) (elements x)
+has_not_affine scope (Loop x) = list_any (index_not_affine scope (Some x.index)) (flat_map places x.body)
+has_not_affine scope _ = false
 
 -- NotAffine: an index is not made of numbers, constants, the loop index, `+`, `-`, `*` and parentheses as a line
 abbrev pub is_not_affine : List Item → Item → Bool
-is_not_affine before x = list_any (lacks_slopes (known before)) (statements x)
+is_not_affine before x = list_any (has_not_affine (known before)) (statements x)
 
 -- ---- where cells lie
 
@@ -155,11 +156,11 @@ leaves p (Span low high length) = int_lt length high && p == natural (length -�
 leaves p (Along line length) = nat_lt p line.n && not (int_le (pos 0) (cell line p) && int_lt (cell line p) length)
 
 -- the line of an index in a loop of n positions whose index is first + p * step at position p
-abbrev pub line_of : ℤ → ℤ → ℕ → Slope → Line
-line_of first step n slope =
+abbrev pub line_of : ℤ → ℤ → ℕ → Affine → Line
+line_of first step n index =
     record {
-      c = if nat_le n 1 then pos 0 else slope.factor *ℤ step;
-      d = if n == 0 then pos 0 else slope.factor *ℤ first +ℤ slope.offset;
+      c = if nat_le n 1 then pos 0 else index.factor *ℤ step;
+      d = if n == 0 then pos 0 else index.factor *ℤ first +ℤ index.offset;
       n = n;
     }
 
@@ -174,9 +175,9 @@ range_reach scope x = Span (number scope x.low) (number scope x.high) (length_of
 abbrev pub cell_reach : Scope → Cell → List Reach
 cell_reach scope x = Along (record { c = pos 0; d = number scope x.index; n = 1 }) (length_of scope x.array) ∷ []
 
--- the cells of an index with this line
-abbrev pub place_reach : Scope → (Slope → Line) → Option Name → Place → List Reach
-place_reach scope line index at = elim (slope_of scope index at.index) [ None ↦ [] | Some slope ↦ Along (line slope) (length_of scope at.array) ∷ [] ]
+-- the cells of an index, by the line of its factor and offset
+abbrev pub place_reach : Scope → (Affine → Line) → Option Name → Place → List Reach
+place_reach scope line index at = elim (affine_of scope index at.index) [ None ↦ [] | Some x ↦ Along (line x) (length_of scope at.array) ∷ [] ]
 
 -- the cell of a clause, if it names one
 abbrev pub clause_reach : Scope → Clause → List Reach
@@ -188,7 +189,7 @@ reach_of f None = []
 reach_of f (Some x) = f x
 
 -- the line of an index of a loop's body
-abbrev pub loop_line : Scope → loops.Loop → Slope → Line
+abbrev pub loop_line : Scope → loops.Loop → Affine → Line
 loop_line scope x = line_of (number scope x.low) (step_of scope x.step) (loop_positions scope x)
 
 -- every range, cell and index of a statement
