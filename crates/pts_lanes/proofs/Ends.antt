@@ -1,12 +1,12 @@
 -- The least and the greatest of signed numbers, eight at once.
-use Rattle.std.proofs.Common.{◌≡◌, ℕ, ◌+◌, ◌-◌, ◌^◌, ◌<◌, ◌≤◌, Bool, true, false, cond, List, [], ◌∷◌, ◌++◌, length, map, get_or, fold, ℤ, pos, refl, ap, sym, subst, ◌∙◌, ◌⊎◌, inl, inr, arith, w64, to_z, of_z, SFits}
+use Rattle.std.proofs.Common.{◌≡◌, ℕ, ◌-◌, ◌^◌, Bool, true, false, cond, List, [], ◌∷◌, ◌++◌, length, map, fold, ℤ, refl, ap, sym, subst, ◌∙◌, ◌⊎◌, inl, inr, arith, w64, to_z, of_z, SFits}
 use Rattle.std.specs.Prelude.{int_lt}
 use Rattle.std.specs.Int.{int_min, int_max}
-use lib.Lanes.{chunk, Each1, zip2, sel_l, top}
+use lib.Lanes.{Each1, zip2, sel_l, top}
 use Rattle.std.proofs.lemmas.Bool.Decides.{nat_tests}
 use Rattle.std.proofs.lemmas.Int.{ints, clamps, to_z-of_z}
 use Rattle.std.proofs.lemmas.List.Sums.{fold-append}
-use Rattle.std.proofs.lemmas.Simd.{tops_compared, length-zip2, length-chunk, get_or-chunk}
+use Rattle.std.proofs.lemmas.Simd.{tops_compared, length-zip2}
 use Rattle.pts_lanes.specs.Lanes.{Enclose, IsKept, widened}
 use Rattle.pts_lanes.proofs.Groupings.{fold-joined}
 
@@ -108,17 +108,3 @@ widened-by-lanes ends lanes items p low high e h =
     ap (λ z. (z, high.1)) (ap (λ w. w.0) (e ∙ ap (fold widened ends) (read-back lanes.0 p.low) ∙ widened-is ends lanes.0) ∙ p.least ends.0)
     ∙ ap (λ z. (fold int_min ends.0 items, z)) (ap (λ w. w.1) (h ∙ ap (fold widened ends) (read-back lanes.1 p.high) ∙ widened-is ends lanes.1) ∙ p.greatest ends.1)
     ∙ sym (widened-is ends items)
-
--- ---- a load
-
-eight-read : (l : List ℤ) → length l ≡ 8 → l ≡ get_or l 0 (pos 0) ∷ get_or l 1 (pos 0) ∷ get_or l 2 (pos 0) ∷ get_or l 3 (pos 0) ∷ get_or l 4 (pos 0) ∷ get_or l 5 (pos 0) ∷ get_or l 6 (pos 0) ∷ get_or l 7 (pos 0) ∷ []
-eight-read (a ∷ b ∷ c ∷ d ∷ e ∷ f ∷ g ∷ h ∷ []) p = refl
-eight-read l p = absurd (omega arith)
-
--- eight items that are read one by one
-pub eight-items : (items : List ℤ) (at : ℕ) → at + 8 ≤ length items → chunk at 8 items ≡ get_or items at (pos 0) ∷ get_or items (at + 1) (pos 0) ∷ get_or items (at + 2) (pos 0) ∷ get_or items (at + 3) (pos 0) ∷ get_or items (at + 4) (pos 0) ∷ get_or items (at + 5) (pos 0) ∷ get_or items (at + 6) (pos 0) ∷ get_or items (at + 7) (pos 0) ∷ []
-eight-items items at le =
-    let read : (k : ℕ) → k < 8 → get_or (chunk at 8 items) k (pos 0) ≡ get_or items (at + k) (pos 0) = λ k lt. get_or-chunk at 8 items k (pos 0) lt in
-    let first : get_or (chunk at 8 items) 0 (pos 0) ≡ get_or items at (pos 0) = read 0 (omega arith) ∙ ap (λ k. get_or items k (pos 0)) (omega arith) in
-    eight-read (chunk at 8 items) (length-chunk at 8 items le)
-    ∙ rw (first, read 1 (omega arith), read 2 (omega arith), read 3 (omega arith), read 4 (omega arith), read 5 (omega arith), read 6 (omega arith), read 7 (omega arith)) refl

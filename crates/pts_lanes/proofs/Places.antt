@@ -1,7 +1,8 @@
--- Places of lists: eight of them, and lists of pairs.
-use Rattle.std.proofs.Common.{◌≡◌, ℕ, ◌+◌, ◌-◌, ◌<◌, ◌≤◌, List, [], ◌∷◌, ◌++◌, length, take, drop, set, fold, length-append, length-take, length-drop, ap, sym, ◌∙◌, arith}
+-- Places of lists: what a write or a load of the next eight does.
+use Rattle.std.proofs.Common.{◌≡◌, ℕ, ◌+◌, ◌-◌, ◌<◌, ◌≤◌, List, [], ◌∷◌, ◌++◌, length, take, drop, set, fold, length-append, length-take, get_or, length-drop, refl, ap, sym, ◌∙◌, arith}
 use borrow.Rule.Slice.PartMut.{put_mid}
 use lib.Lanes.{chunk}
+use Rattle.std.proofs.lemmas.Simd.{get_or-chunk, length-chunk}
 use Rattle.std.proofs.Math.Seq.{take-add}
 use Rattle.std.proofs.lemmas.List.Sums.{fold-append}
 use Rattle.std.proofs.lemmas.Slice.{take-put_mid}
@@ -25,3 +26,17 @@ pub folded_in_two : {A B : Type 0} (f : B → A → B) (a : B) (items : List A) 
 folded_in_two f a items at value result e rest =
     rest ∙ ap (fold f value) (take_all (length items - at) (drop at items) (omega (arith, length-drop at items)))
     ∙ ap (λ v. fold f v (drop at items)) e ∙ sym (fold-append f a (take at items) (drop at items)) ∙ ap (fold f a) (take-append-drop at items)
+
+-- ---- a load
+
+eight-read : {A : Type 0} (z : A) (l : List A) → length l ≡ 8 → l ≡ get_or l 0 z ∷ get_or l 1 z ∷ get_or l 2 z ∷ get_or l 3 z ∷ get_or l 4 z ∷ get_or l 5 z ∷ get_or l 6 z ∷ get_or l 7 z ∷ []
+eight-read z (a ∷ b ∷ c ∷ d ∷ e ∷ f ∷ g ∷ h ∷ []) p = refl
+eight-read z l p = absurd (omega arith)
+
+-- eight items that are read one by one
+pub eight-items : {A : Type 0} (z : A) (items : List A) (at : ℕ) → at + 8 ≤ length items → chunk at 8 items ≡ get_or items at z ∷ get_or items (at + 1) z ∷ get_or items (at + 2) z ∷ get_or items (at + 3) z ∷ get_or items (at + 4) z ∷ get_or items (at + 5) z ∷ get_or items (at + 6) z ∷ get_or items (at + 7) z ∷ []
+eight-items z items at le =
+    let read : (k : ℕ) → k < 8 → get_or (chunk at 8 items) k z ≡ get_or items (at + k) z = λ k lt. get_or-chunk at 8 items k z lt in
+    let first : get_or (chunk at 8 items) 0 z ≡ get_or items at z = read 0 (omega arith) ∙ ap (λ k. get_or items k z) (omega arith) in
+    eight-read z (chunk at 8 items) (length-chunk at 8 items le)
+    ∙ rw (first, read 1 (omega arith), read 2 (omega arith), read 3 (omega arith), read 4 (omega arith), read 5 (omega arith), read 6 (omega arith), read 7 (omega arith)) refl

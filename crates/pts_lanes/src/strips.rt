@@ -1,4 +1,5 @@
-//! The shape of all kernels: eight places at once, and then the rest one by one.
+//! The shape of all kernels, once for those that fold and once for those that fill: eight places at once, and then
+//! the rest one by one.
 
 ghost use Rattle.std.specs.Prelude.{◌≡◌, ℕ, List, [], ◌∷◌, ◌++◌, ◌+◌, ◌<◌, ◌≤◌, length, take, drop, fold};
 ghost use Rattle.std.specs.Simd.Lanes.{chunk};
@@ -73,6 +74,7 @@ pub(crate) trait Filling {
     /// What all calls ask of it.
     ghost condition: { Self → Type 0 };
 
+    /// How many places there are.
     ghost places: { Self → ℕ };
 
     /// What all places get.
