@@ -1,8 +1,8 @@
 -- Places of lists: what a write or a load of the next eight does.
 use Rattle.std.proofs.Common.{◌≡◌, ℕ, ◌+◌, ◌-◌, ◌<◌, ◌≤◌, List, [], ◌∷◌, ◌++◌, length, take, drop, set, fold, length-append, length-take, get_or, length-drop, refl, ap, sym, ◌∙◌, arith}
 use borrow.Rule.Slice.PartMut.{put_mid}
-use lib.Lanes.{chunk}
-use Rattle.std.proofs.lemmas.Simd.{get_or-chunk, length-chunk}
+use lib.Lanes.{chunk, put_chunk}
+use Rattle.std.proofs.lemmas.Simd.{get_or-chunk, length-chunk, put_chunk_whole}
 use Rattle.std.proofs.Math.Seq.{take-add}
 use Rattle.std.proofs.lemmas.List.Sums.{fold-append}
 use Rattle.std.proofs.lemmas.Slice.{take-put_mid}
@@ -46,3 +46,16 @@ eight-items z items at le =
     let first : get_or (chunk at 8 items) 0 z ≡ get_or items at z = read 0 (omega arith) ∙ ap (λ k. get_or items k z) (omega arith) in
     eight-read z (chunk at 8 items) (length-chunk at 8 items le)
     ∙ rw (first, read 1 (omega arith), read 2 (omega arith), read 3 (omega arith), read 4 (omega arith), read 5 (omega arith), read 6 (omega arith), read 7 (omega arith)) refl
+
+-- ---- a write of eight
+
+-- a vector that holds the next eight answers, written over eight places
+pub eight-stored : {A : Type 0} (out v answer : List A) (at : ℕ) → length out ≡ 8 → v ≡ chunk at 8 answer → at + 8 ≤ length answer
+    → put_chunk 0 out v ≡ chunk at 8 answer
+eight-stored out v answer at p e le = put_chunk_whole out v (p ∙ sym (ap length e ∙ length-chunk at 8 answer le)) ∙ e
+
+-- eight places that are written one by one
+pub eight-written : {A : Type 0} (out : List A) (a b c d e f g h : A) → length out ≡ 8
+    → set (set (set (set (set (set (set (set out 0 a) 1 b) 2 c) 3 d) 4 e) 5 f) 6 g) 7 h ≡ a ∷ b ∷ c ∷ d ∷ e ∷ f ∷ g ∷ h ∷ []
+eight-written (i ∷ j ∷ k ∷ l ∷ m ∷ n ∷ o ∷ p ∷ []) a b c d e f g h long = refl
+eight-written out a b c d e f g h long = absurd (omega arith)
