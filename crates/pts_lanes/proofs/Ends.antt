@@ -68,7 +68,9 @@ kept-either f one (x ∷ xs) [] p q = tt
 kept-either f one (x ∷ xs) (y ∷ ys) p q =
     (elim (one x y) [ inl e ↦ subst IsKept (sym e) p.0 | inr e ↦ subst IsKept (sym e) q.0 ], kept-either f one xs ys p.1 q.1)
 
-folded-both : (f : ℤ → ℤ → ℤ) → ((x y z : ℤ) → f (f x y) z ≡ f x (f y z)) → ((x y : ℤ) → f x y ≡ f y x) → (u v xs ys : List ℤ) → length u ≡ length v → ((a : ℤ) → fold f a u ≡ fold f a xs) → ((a : ℤ) → fold f a v ≡ fold f a ys) → (a : ℤ) → fold f a (zip2 f u v) ≡ fold f a (xs ++ ys)
+folded-both : (f : ℤ → ℤ → ℤ) → ((x y z : ℤ) → f (f x y) z ≡ f x (f y z)) → ((x y : ℤ) → f x y ≡ f y x) → (u v xs ys : List ℤ) → length u ≡ length v
+    → ((a : ℤ) → fold f a u ≡ fold f a xs) → ((a : ℤ) → fold f a v ≡ fold f a ys) → (a : ℤ)
+    → fold f a (zip2 f u v) ≡ fold f a (xs ++ ys)
 folded-both f grouped turned u v xs ys long p q a =
     fold-joined f grouped turned a u v long ∙ ap (λ b. fold f b v) (p a) ∙ q (fold f a xs) ∙ sym (fold-append f a xs ys)
 

@@ -27,7 +27,9 @@ module _ {A : Type 0} (f : A → A → A) (grouped : (x y z : A) → f (f x y) z
       ∙ ap (λ b. fold f b ys) (ap (λ b. fold f b xs) (sym (grouped a x y)) ∙ fold-later (f a x) y xs)
 
 -- eight lanes that are joined stand for the items of both
-pub stand-joined : (f : ℕ → ℕ → ℕ) → ((x y z : ℕ) → f (f x y) z ≡ f x (f y z)) → ((x y : ℕ) → f x y ≡ f y x) → {T : Type 0} (step : ℕ → T → ℕ) (u v : List ℕ) (xs ys : List T) → StandFor f step u xs → StandFor f step v ys → StandFor f step (zip2 f u v) (xs ++ ys)
+pub stand-joined : (f : ℕ → ℕ → ℕ) → ((x y z : ℕ) → f (f x y) z ≡ f x (f y z)) → ((x y : ℕ) → f x y ≡ f y x)
+    → {T : Type 0} (step : ℕ → T → ℕ) (u v : List ℕ) (xs ys : List T) → StandFor f step u xs → StandFor f step v ys
+    → StandFor f step (zip2 f u v) (xs ++ ys)
 stand-joined f grouped turned step u v xs ys p q = (
   length-zip2 f u v (p.0 ∙ sym q.0) ∙ p.0,
   λ a. fold-joined f grouped turned a u v (p.0 ∙ sym q.0) ∙ ap (λ b. fold f b v) (p.1 a) ∙ q.1 (fold step a xs) ∙ sym (fold-append step a xs ys),
@@ -49,6 +51,8 @@ pub number-turned : (op : ScalarOp) → IsCommutative IsU64 op → (x y : ℕ) �
 number-turned op law x y = ap number_in (law (U64 x) (U64 y) tt tt)
 
 -- for each of the seven operations, lanes that are joined stand for the items of both
-pub reduction-joined : (op : ScalarOp) → IsReduction op → IsAssociative IsU64 op → IsCommutative IsU64 op → {T : Type 0} (step : ℕ → T → ℕ) (u v : List ℕ) (xs ys : List T) → StandFor (number_under op) step u xs → StandFor (number_under op) step v ys → StandFor (number_under op) step (zip2 (number_under op) u v) (xs ++ ys)
+pub reduction-joined : (op : ScalarOp) → IsReduction op → IsAssociative IsU64 op → IsCommutative IsU64 op
+    → {T : Type 0} (step : ℕ → T → ℕ) (u v : List ℕ) (xs ys : List T) → StandFor (number_under op) step u xs → StandFor (number_under op) step v ys
+    → StandFor (number_under op) step (zip2 (number_under op) u v) (xs ++ ys)
 reduction-joined op h grouped turned step u v xs ys p q =
     stand-joined (number_under op) (number-grouped op h grouped) (number-turned op turned) step u v xs ys p q

@@ -40,11 +40,13 @@ pairwise-chunk f (suc at) n (x ∷ xs) (y ∷ ys) = pairwise-chunk f at n xs ys
 pub loaded : {A : Type 0} (at : ℕ) (xs : List A) → chunk 0 8 (take (length xs - at) (drop at xs)) ≡ chunk at 8 xs
 loaded at xs = ap (take 8) (take_all (length xs - at) (drop at xs) (omega (arith, length-drop at xs)))
 
-pub loaded-pairs : {A B C : Type 0} (f : A → B → C) (at : ℕ) (xs : List A) (ys : List B) → zip2 f (chunk 0 8 (take (length xs - at) (drop at xs))) (chunk 0 8 (take (length ys - at) (drop at ys))) ≡ chunk at 8 (pairwise f xs ys)
+pub loaded-pairs : {A B C : Type 0} (f : A → B → C) (at : ℕ) (xs : List A) (ys : List B)
+    → zip2 f (chunk 0 8 (take (length xs - at) (drop at xs))) (chunk 0 8 (take (length ys - at) (drop at ys))) ≡ chunk at 8 (pairwise f xs ys)
 loaded-pairs f at xs ys = ap (λ l. zip2 f l (chunk 0 8 (take (length ys - at) (drop at ys)))) (loaded at xs) ∙ ap (zip2 f (chunk at 8 xs)) (loaded at ys) ∙ pairwise-chunk f at 8 xs ys
 
 -- the pair at one place
-pub pairwise-at : {A B C : Type 0} (f : A → B → C) (at : ℕ) (xs : List A) (ys : List B) (a : A) (b : B) → at < length xs → at < length ys → chunk at 1 (pairwise f xs ys) ≡ f (get_or xs at a) (get_or ys at b) ∷ []
+pub pairwise-at : {A B C : Type 0} (f : A → B → C) (at : ℕ) (xs : List A) (ys : List B) (a : A) (b : B) → at < length xs → at < length ys
+    → chunk at 1 (pairwise f xs ys) ≡ f (get_or xs at a) (get_or ys at b) ∷ []
 pairwise-at f at [] ys a b p q = absurd (omega arith)
 pairwise-at f at (x ∷ xs) [] a b p q = absurd (omega arith)
 pairwise-at f zero (x ∷ xs) (y ∷ ys) a b p q = refl
@@ -60,7 +62,8 @@ take-chosen (suc n) (m ∷ mask) (x ∷ xs) [] = refl
 take-chosen (suc n) (m ∷ mask) (x ∷ xs) (y ∷ ys) = ap (λ l. cond m x y ∷ l) (take-chosen n mask xs ys)
 
 -- a part of the choices is the choices of the parts, for lists of one length
-pub chosen-chunk : {A : Type 0} (at n : ℕ) (mask : List Bool) (xs ys : List A) → length mask ≡ length ys → length xs ≡ length ys → sel_l (chunk at n mask) (chunk at n xs) (chunk at n ys) ≡ chunk at n (chosen mask xs ys)
+pub chosen-chunk : {A : Type 0} (at n : ℕ) (mask : List Bool) (xs ys : List A) → length mask ≡ length ys → length xs ≡ length ys
+    → sel_l (chunk at n mask) (chunk at n xs) (chunk at n ys) ≡ chunk at n (chosen mask xs ys)
 chosen-chunk zero n mask xs ys p q = take-chosen n mask xs ys
 chosen-chunk {A} (suc at) n [] xs ys p q = ap (λ l. sel_l l (chunk (suc at) n xs) (chunk (suc at) n ys)) (take-none {A = Bool} n) ∙ sym (take-none {A = A} n)
 chosen-chunk (suc at) n (m ∷ mask) [] [] p q = absurd (omega arith)
@@ -69,7 +72,8 @@ chosen-chunk (suc at) n (m ∷ mask) (x ∷ xs) [] p q = absurd (omega arith)
 chosen-chunk (suc at) n (m ∷ mask) (x ∷ xs) (y ∷ ys) p q = chosen-chunk at n mask xs ys (omega arith) (omega arith)
 
 -- the choice at one place
-pub chosen-at : {A : Type 0} (at : ℕ) (mask : List Bool) (xs ys : List A) (a b : A) → at < length mask → at < length xs → at < length ys → chunk at 1 (chosen mask xs ys) ≡ cond (get_or mask at false) (get_or xs at a) (get_or ys at b) ∷ []
+pub chosen-at : {A : Type 0} (at : ℕ) (mask : List Bool) (xs ys : List A) (a b : A) → at < length mask → at < length xs → at < length ys
+    → chunk at 1 (chosen mask xs ys) ≡ cond (get_or mask at false) (get_or xs at a) (get_or ys at b) ∷ []
 chosen-at at [] xs ys a b p q r = absurd (omega arith)
 chosen-at at (m ∷ mask) [] ys a b p q r = absurd (omega arith)
 chosen-at at (m ∷ mask) (x ∷ xs) [] a b p q r = absurd (omega arith)

@@ -16,12 +16,15 @@ selected t (x ∷ xs) (y ∷ ys) zero p q = absurd (omega arith)
 selected t (x ∷ xs) (y ∷ ys) (suc n) p q = ap (λ l. one_where t x y ∷ l) (selected t xs ys n (omega arith) (omega arith))
 
 -- what a selection by compared lanes gives, for vectors of 8
-pub truths-selected : (t : ℕ → ℕ → Bool) (xs ys holds : List ℕ) → holds ≡ zip2 (λ a b. cond (t a b) (2 ^ 64 - 1) 0) xs ys → length xs ≡ 8 → length ys ≡ 8 → sel_l (map (top 63) holds) (replicate 8 1) (replicate 8 0) ≡ zip2 (one_where t) xs ys
+pub truths-selected : (t : ℕ → ℕ → Bool) (xs ys holds : List ℕ) → holds ≡ zip2 (λ a b. cond (t a b) (2 ^ 64 - 1) 0) xs ys → length xs ≡ 8
+    → length ys ≡ 8
+    → sel_l (map (top 63) holds) (replicate 8 1) (replicate 8 0) ≡ zip2 (one_where t) xs ys
 truths-selected t xs ys holds e p q =
     ap (λ ms. sel_l ms (replicate 8 1) (replicate 8 0)) (ap (map (top 63)) e ∙ tops_compared w64 t xs ys) ∙ selected t xs ys 8 p q
 
 -- each of eight numbers is 1
-pub ones-read : (l : List ℕ) → length l ≡ 8 → eqb (get_or l 0 0) 1 ∷ eqb (get_or l 1 0) 1 ∷ eqb (get_or l 2 0) 1 ∷ eqb (get_or l 3 0) 1 ∷ eqb (get_or l 4 0) 1 ∷ eqb (get_or l 5 0) 1 ∷ eqb (get_or l 6 0) 1 ∷ eqb (get_or l 7 0) 1 ∷ [] ≡ map (λ n. eqb n 1) l
+pub ones-read : (l : List ℕ) → length l ≡ 8
+    → eqb (get_or l 0 0) 1 ∷ eqb (get_or l 1 0) 1 ∷ eqb (get_or l 2 0) 1 ∷ eqb (get_or l 3 0) 1 ∷ eqb (get_or l 4 0) 1 ∷ eqb (get_or l 5 0) 1 ∷ eqb (get_or l 6 0) 1 ∷ eqb (get_or l 7 0) 1 ∷ [] ≡ map (λ n. eqb n 1) l
 ones-read (a ∷ b ∷ c ∷ d ∷ e ∷ f ∷ g ∷ h ∷ []) p = refl
 ones-read l p = absurd (omega arith)
 

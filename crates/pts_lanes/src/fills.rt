@@ -51,10 +51,10 @@ impl Filling for Numbers<'_> {
     ghost answer = { λ k. pairwise (number_under k.op) k.xs.now k.ys.now };
 
     #[inline(always)]
-    fn eight(&self, at: usize) -> [u64; 8] {
+    fn eight(&self, at: usize, out: &mut [u64]) {
         let xs = u64x8::from_slice(&self.xs[at..]);
         let ys = u64x8::from_slice(&self.ys[at..]);
-        numbers(self.op, xs, ys).to_array()
+        numbers(self.op, xs, ys).copy_to_slice(out);
     }
 
     #[inline(always)]
@@ -80,20 +80,18 @@ impl Filling for Truths<'_> {
     ghost answer = { λ k. pairwise (truth_under k.op) k.xs.now k.ys.now };
 
     #[inline(always)]
-    fn eight(&self, at: usize) -> [bool; 8] {
+    fn eight(&self, at: usize, out: &mut [bool]) {
         let xs = u64x8::from_slice(&self.xs[at..]);
         let ys = u64x8::from_slice(&self.ys[at..]);
         let lanes = truths(self.op, xs, ys).to_array();
-        [
-            lanes[0] == 1,
-            lanes[1] == 1,
-            lanes[2] == 1,
-            lanes[3] == 1,
-            lanes[4] == 1,
-            lanes[5] == 1,
-            lanes[6] == 1,
-            lanes[7] == 1,
-        ]
+        out[0] = lanes[0] == 1;
+        out[1] = lanes[1] == 1;
+        out[2] = lanes[2] == 1;
+        out[3] = lanes[3] == 1;
+        out[4] = lanes[4] == 1;
+        out[5] = lanes[5] == 1;
+        out[6] = lanes[6] == 1;
+        out[7] = lanes[7] == 1;
     }
 
     #[inline(always)]
@@ -119,11 +117,11 @@ impl Filling for Choice<'_> {
     ghost answer = { λ k. chosen k.mask.now k.xs.now k.ys.now };
 
     #[inline(always)]
-    fn eight(&self, at: usize) -> [u64; 8] {
+    fn eight(&self, at: usize, out: &mut [u64]) {
         let xs = u64x8::from_slice(&self.xs[at..]);
         let ys = u64x8::from_slice(&self.ys[at..]);
         let holds = as_numbers(self.mask, at).simd_eq(u64x8::splat(1));
-        holds.select(xs, ys).to_array()
+        holds.select(xs, ys).copy_to_slice(out);
     }
 
     #[inline(always)]

@@ -80,10 +80,11 @@ pub(crate) trait Filling {
     /// What all places get.
     ghost answer: { Self → List Self.Out };
 
-    fn eight(&self, at: usize) -> [Self::Out; 8]
+    fn eight(&self, at: usize, out: &mut [Self::Out])
         requires condition { condition self.now }
         requires within { at + 8 ≤ places self.now }
-        ensures { result ≡ chunk at 8 (answer self.now) };
+        requires room { length out.old ≡ 8 }
+        ensures { out.new ≡ chunk at 8 (answer self.now) };
 
     fn one(&self, at: usize) -> Self::Out
         requires condition { condition self.now }
@@ -99,7 +100,7 @@ pub(crate) fn fill_strips<K: Filling>(kernel: &K, out: &mut [K::Out])
 {
     let mut at = 0;
     while out.len() - at >= 8 {
-        out[at..at + 8].copy_from_slice(&kernel.eight(at));
+        kernel.eight(at, &mut out[at..at + 8]);
         at += 8;
     }
     while at < out.len() {

@@ -8,8 +8,8 @@ use Rattle.pts_lanes.proofs.strips.fill_strips.Goals as goal
 pub loop-out-preserved : goal.loop-out-preserved
 loop-out-preserved g c =
     let answer = g.K.Filling.answer c.args.kernel.now in
-    let ys = c.copy_from_slice.new.self in
-    let e = c.copy_from_slice.ensures.after ∙ c.eight.ensures in
+    let ys = c.eight.new.out in
+    let e = c.eight.ensures in
     let long = ap length {y = chunk c.loop-out.at 8 answer} e ∙ length-chunk c.loop-out.at 8 answer (omega arith) in
     record {
       places = c.loop-out.invariant.places;
