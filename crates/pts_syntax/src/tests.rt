@@ -195,7 +195,7 @@ fn nested(alloc: Global, count: usize, parts: [&[u8]; 5]) -> Result<Vec<u8>, All
 // Brackets of each sort in each part that nests: as many as may be open, and one more.
 #[test]
 fn reads_sixty_four_open_brackets(rt: HostRuntime) -> Result<(), Fail> {
-    let table: [([&[u8]; 5], usize, usize); 8] = [
+    let table: [([&[u8]; 5], usize, usize); 9] = [
         (
             [b"pts 1; fn f(a: u64) -> u64 = ", b"(", b"a", b")", b";"],
             64,
@@ -250,6 +250,11 @@ fn reads_sixty_four_open_brackets(rt: HostRuntime) -> Result<(), Fail> {
             983,
         ),
         ([b"pts 1; ", b"task_block {", b"", b"}", b""], 64, 786),
+        (
+            [b"pts 1; ", b"task_block { run {", b"", b"} }", b""],
+            32,
+            594,
+        ),
     ];
     for (parts, most, at) in table {
         let deepest = nested(rt.alloc(), most, parts)?;
