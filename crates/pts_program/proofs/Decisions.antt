@@ -8,10 +8,10 @@ use Rattle.std.proofs.lemmas.Option.{slice_get_past}
 use Rattle.pts_tree.specs.declared.script.Item.{Item}
 use Rattle.pts_tree.specs.declared.script.Script.{Script}
 use Rattle.pts_program.specs.declared.fault.BuildFault.{BuildFault}
-use Rattle.pts_program.specs.Parts.{statements}
-use Rattle.pts_program.specs.Known.{natural}
-use Rattle.pts_program.specs.Scopes.{known}
-use Rattle.pts_program.specs.Indices.{Reach, Span, Along, leaves, reaches, is_out_at}
+use Rattle.pts_rules.specs.Parts.{statements}
+use Rattle.pts_rules.specs.Known.{natural}
+use Rattle.pts_rules.specs.Scopes.{known}
+use Rattle.pts_rules.specs.Indices.{Reach, Span, Along, leaves, reaches, is_out_at}
 use Rattle.pts_program.specs.Faults.{Rule, Unknown, Twice, Mistyped, TooDeep, TooMany, BadStep, BackwardRange, LengthsDiffer, BadIdentity, NotAffine, OutOfRange}
 use Rattle.pts_program.specs.Faults.{place_of, Breaks, BreaksAt, IsPosition, IsFaultAt, IsSound, item_at, items_before, fault_of}
 use Rattle.pts_program.proofs.FirstFaults.{rule_at, rule-at_place}

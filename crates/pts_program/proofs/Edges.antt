@@ -25,22 +25,23 @@ use Rattle.pts_tree.specs.declared.expr.Expr.TheVariants as e
 use Rattle.pts_tree.specs.declared.loops.Loop as loops
 use Rattle.pts_tree.specs.declared.loops.BodyStmt.{BodyStmt}
 use Rattle.pts_tree.specs.declared.loops.BodyStmt.TheVariants as b
-use Rattle.pts_program.specs.Parts.{Loop, expr_names}
-use Rattle.pts_program.specs.Names.{is_unknown, is_twice}
-use Rattle.pts_program.specs.Kinds.{typing, typing_step, fits}
-use Rattle.pts_program.specs.Mistyped.{is_mistyped}
-use Rattle.pts_program.specs.Limits.{is_too_many}
-use Rattle.pts_program.specs.Counts.{positions, size_of, size_step}
-use Rattle.pts_program.specs.Steps.{is_bad_step, is_bad_identity, lengths_differ, is_backward_range}
-use Rattle.pts_program.specs.Known.{Scope, Value}
-use Rattle.pts_program.specs.Scopes.{known}
-use Rattle.pts_program.specs.Indices.{Reach, Along, leaves, reaches, place_reach, loop_line, Affine, reading_step, affine_of, elements, places, is_out_at}
-use Rattle.pts_program.proofs.ExprNames.{names-Call, names-Name}
-use Rattle.pts_program.proofs.Readings.{reading-Name, reading-Number, reading-Chain}
-use Rattle.pts_program.proofs.Typings.{typing-Number, typing-Name, typing-Minus, typing-Paren, typing-Chain, typing-Compare}
-use Rattle.pts_program.proofs.Sizes.{size-Number, size-Name, size-Chain}
-use Rattle.pts_program.proofs.Bodies.{places-Assign}
-use Rattle.pts_program.proofs.Elements.{elements-Name, elements-Number, elements-Element, elements-Chain}
+use Rattle.pts_rules.specs.Parts.{Loop, expr_names}
+use Rattle.pts_rules.specs.Names.{is_unknown, is_twice}
+use Rattle.pts_rules.specs.Kinds.{typing, typing_step, fits}
+use Rattle.pts_rules.specs.Mistyped.{is_mistyped}
+use Rattle.pts_rules.specs.Limits.{is_too_many}
+use Rattle.pts_rules.specs.Counts.{positions, size_of, size_step}
+use Rattle.pts_rules.specs.Steps.{is_bad_step, is_bad_identity, lengths_differ, is_backward_range}
+use Rattle.pts_rules.specs.declared.meaning.Meaning.TheVariants.{Value}
+use Rattle.pts_rules.specs.Known.{Scope}
+use Rattle.pts_rules.specs.Scopes.{known}
+use Rattle.pts_rules.specs.Indices.{Reach, Along, leaves, reaches, place_reach, loop_line, Affine, reading_step, affine_of, elements, places, is_out_at}
+use Rattle.pts_rules.proofs.ExprNames.{names-Call, names-Name}
+use Rattle.pts_rules.proofs.Readings.{reading-Name, reading-Number, reading-Chain}
+use Rattle.pts_rules.proofs.Typings.{typing-Number, typing-Name, typing-Minus, typing-Paren, typing-Chain, typing-Compare}
+use Rattle.pts_rules.proofs.Sizes.{size-Number, size-Name, size-Chain}
+use Rattle.pts_rules.proofs.Bodies.{places-Assign}
+use Rattle.pts_rules.proofs.Elements.{elements-Name, elements-Number, elements-Element, elements-Chain}
 
 -- the sum of one number
 abbrev pub number : ℕ → Sum

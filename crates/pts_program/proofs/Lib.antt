@@ -1,15 +1,4 @@
-pub mod Bodies
 pub mod Decisions
-pub mod Depths
 pub mod Edges
-pub mod ElementCounts
-pub mod Elements
-pub mod ExprFolds
-pub mod ExprNames
 pub mod FirstFaults
-pub mod Readings
 pub mod ScopeEdges
-pub mod Sizes
-pub mod StatementFolds
-pub mod Tasks
-pub mod Typings

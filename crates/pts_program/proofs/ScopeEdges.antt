@@ -9,13 +9,13 @@ use Rattle.pts_tree.specs.declared.loops.BodyStmt.TheVariants as b
 use Rattle.pts_tree.specs.declared.block.Block.{Block}
 use Rattle.pts_tree.specs.declared.block.TaskStmt.TheVariants as t
 use Rattle.pts_tree.specs.declared.script.Item.TheVariants as items
-use Rattle.pts_program.specs.Parts.{Name, using, free, uses, lets, without, is_among}
-use Rattle.pts_program.specs.Names.{is_unknown, is_twice, globals, has_repeat, meet}
-use Rattle.pts_program.specs.Counts.{nesting}
-use Rattle.pts_program.specs.Limits.{is_too_deep}
-use Rattle.pts_program.proofs.ExprNames.{names-True, names-Number, names-Name}
-use Rattle.pts_program.proofs.Bodies.{uses-If, uses-Let, uses-Assign, lets-If, lets-Let}
-use Rattle.pts_program.proofs.Tasks.{nesting-body, nesting-Block}
+use Rattle.pts_rules.specs.Parts.{Name, using, free, uses, lets, without, is_among}
+use Rattle.pts_rules.specs.Names.{is_unknown, is_twice, globals, has_repeat, meet}
+use Rattle.pts_rules.specs.Counts.{nesting}
+use Rattle.pts_rules.specs.Limits.{is_too_deep}
+use Rattle.pts_rules.proofs.ExprNames.{names-True, names-Number, names-Name}
+use Rattle.pts_rules.proofs.Bodies.{uses-If, uses-Let, uses-Assign, lets-If, lets-Let}
+use Rattle.pts_rules.proofs.Tasks.{nesting-body, nesting-Block}
 use Rattle.pts_program.proofs.Edges.{array, number}
 
 -- ---- a `let` and its braces

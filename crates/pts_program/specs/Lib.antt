@@ -1,11 +1,1 @@
-pub mod Counts
 pub mod Faults
-pub mod Indices
-pub mod Kinds
-pub mod Known
-pub mod Limits
-pub mod Mistyped
-pub mod Names
-pub mod Parts
-pub mod Scopes
-pub mod Steps

@@ -1,0 +1,4 @@
+pub mod Lists
+pub mod Scoped
+pub mod Runs
+pub mod Walks

@@ -1,0 +1,10 @@
+pub mod Clashes
+pub mod Entering
+pub mod ExprNames
+pub mod Globals
+pub mod ItemNames
+pub mod LoopNames
+pub mod Missing
+pub mod Statements
+pub mod TaskNames
+pub mod Walks

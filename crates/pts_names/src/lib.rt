@@ -1,0 +1,14 @@
+//! Which items use a name that nothing declares, and which declare a name again.
+#![tactic(auto)]
+
+mod blocks;
+mod bodies;
+mod expressions;
+mod items;
+mod locals;
+mod loops;
+mod parts;
+#[cfg(test)]
+mod tests;
+
+pub use items::{declares_twice, uses_unknown};

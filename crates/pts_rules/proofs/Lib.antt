@@ -1,0 +1,13 @@
+pub mod Bodies
+pub mod Depths
+pub mod ElementCounts
+pub mod Elements
+pub mod ExprFolds
+pub mod ExprNames
+pub mod Readings
+pub mod Scoping
+pub mod Sizes
+pub mod StatementFolds
+pub mod SumParts
+pub mod Tasks
+pub mod Typings

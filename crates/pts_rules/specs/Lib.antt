@@ -1,0 +1,11 @@
+pub mod Counts
+pub mod Indices
+pub mod Kinds
+pub mod Known
+pub mod Limits
+pub mod Mistyped
+pub mod Names
+pub mod Parts
+pub mod Scopes
+pub mod Steps
+pub mod Rows
