@@ -12,8 +12,9 @@ use Rattle.pts_rules.specs.Parts.{statements}
 use Rattle.pts_rules.specs.Known.{natural}
 use Rattle.pts_rules.specs.Scopes.{known}
 use Rattle.pts_rules.specs.Indices.{Reach, Span, Along, leaves, reaches, is_out_at}
-use Rattle.pts_program.specs.Faults.{Rule, Unknown, Twice, Mistyped, TooDeep, TooMany, BadStep, BackwardRange, LengthsDiffer, BadIdentity, NotAffine, OutOfRange}
-use Rattle.pts_program.specs.Faults.{place_of, Breaks, BreaksAt, IsPosition, IsFaultAt, IsSound, item_at, items_before, fault_of}
+use Rattle.pts_program.specs.declared.fault.Rule.{Rule}
+use Rattle.pts_program.specs.declared.fault.Rule.TheVariants.{Unknown, Twice, Mistyped, TooDeep, TooMany, BadStep, BackwardRange, LengthsDiffer, BadIdentity, NotAffine, OutOfRange}
+use Rattle.pts_program.specs.Faults.{HoldsOf, place_of, Breaks, BreaksAt, IsPosition, IsFaultAt, IsSound, item_at, items_before, fault_of}
 use Rattle.pts_program.proofs.FirstFaults.{rule_at, rule-at_place}
 use Rattle.std.specs.Prelude.{flat_map}
 
@@ -124,7 +125,7 @@ decide-same m n (inl h) k = inr (λ e. absurd (omega (arith, h, e)))
 decide-same m n (inr h) (inl k) = inr (λ e. absurd (omega (arith, k, e)))
 decide-same m n (inr h) (inr k) = inl (omega (arith, h, k))
 
-places-end : (rule : Rule) → place_of rule < 11
+pub places-end : (rule : Rule) → place_of rule < 11
 places-end Unknown = omega arith
 places-end Twice = omega arith
 places-end Mistyped = omega arith
@@ -201,7 +202,7 @@ fault-at script n none found =
     )
 
 -- there are no items behind the last one
-past-end : (script : Script) (n : ℕ) → length script.items < n → (rule : Rule) → ¬ BreaksAt script n rule
+pub past-end : (script : Script) (n : ℕ) → length script.items < n → (rule : Rule) → ¬ BreaksAt script n rule
 past-end script zero less rule = absurd (omega (arith, less))
 past-end script (suc n) less rule =
     λ h. subst (λ o. IsSomeAnd o (Breaks rule (items_before script (suc n)))) (slice_get_past script.items n (omega (arith, less))) h
@@ -238,3 +239,10 @@ breaks-at script k x rule e =
       λ h. subst (λ m. Breaks rule (take m script.items) x) before (subst (λ o. IsSomeAnd o (Breaks rule (take (suc k - 1) script.items))) e (subst (λ n. BreaksAt script n rule) same h)),
       λ h. subst (λ n. BreaksAt script n rule) (sym same) (subst (λ o. IsSomeAnd o (Breaks rule (take (suc k - 1) script.items))) (sym e) (subst (λ m. Breaks rule (take m script.items) x) (sym before) h)),
     )
+
+-- the same of what holds of an item and those before it
+pub holds_at : (script : Script) (k : ℕ) (x : Item) (P : List Item → Item → Type 0) → slice_get script.items k ≡ Some x → P (take k script.items) x → HoldsOf script (k + 1) P
+holds_at script k x P e h =
+    let same : k + 1 ≡ suc k = omega arith in
+    let before : suc k - 1 ≡ k = omega arith in
+    subst (λ n. HoldsOf script n P) (sym same) (subst (λ o. IsSomeAnd o (P (take (suc k - 1) script.items))) (sym e) (subst (λ m. P (take m script.items) x) (sym before) h))

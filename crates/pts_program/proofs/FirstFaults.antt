@@ -5,7 +5,8 @@ use Rattle.pts_tree.specs.declared.script.Item.{Item}
 use Rattle.pts_tree.specs.declared.script.Script.{Script}
 use Rattle.pts_program.specs.declared.fault.BuildFault.{BuildFault}
 use Rattle.pts_program.specs.declared.fault.BuildFault.TheVariants as faults
-use Rattle.pts_program.specs.Faults.{Rule, Unknown, Twice, Mistyped, TooDeep, TooMany, BadStep, BackwardRange, LengthsDiffer, BadIdentity, NotAffine, OutOfRange}
+use Rattle.pts_program.specs.declared.fault.Rule.{Rule}
+use Rattle.pts_program.specs.declared.fault.Rule.TheVariants.{Unknown, Twice, Mistyped, TooDeep, TooMany, BadStep, BackwardRange, LengthsDiffer, BadIdentity, NotAffine, OutOfRange}
 use Rattle.pts_program.specs.Faults.{place_of, HoldsOf, IsPosition, IsFaultAt, item_at, items_before, fault_of}
 
 -- ---- rules by their places

@@ -4,15 +4,13 @@ use Rattle.pts_tree.specs.declared.script.Item.{Item}
 use Rattle.pts_tree.specs.declared.script.Script.{Script}
 use Rattle.pts_program.specs.declared.fault.BuildFault.{BuildFault}
 use Rattle.pts_program.specs.declared.fault.BuildFault.TheVariants as faults
+use Rattle.pts_program.specs.declared.fault.Rule.{Rule}
+use Rattle.pts_program.specs.declared.fault.Rule.TheVariants.{Unknown, Twice, Mistyped, TooDeep, TooMany, BadStep, BackwardRange, LengthsDiffer, BadIdentity, NotAffine, OutOfRange}
 use Rattle.pts_rules.specs.Names.{is_unknown, is_twice}
 use Rattle.pts_rules.specs.Mistyped.{is_mistyped}
 use Rattle.pts_rules.specs.Limits.{is_too_deep, is_too_many}
 use Rattle.pts_rules.specs.Steps.{is_bad_step, is_backward_range, lengths_differ, is_bad_identity}
 use Rattle.pts_rules.specs.Indices.{is_not_affine, is_out_at}
-
--- the rules
-pub data Rule : Type 0 where
-  Unknown Twice Mistyped TooDeep TooMany BadStep BackwardRange LengthsDiffer BadIdentity NotAffine OutOfRange : Rule
 
 -- the place of a rule in the order in which they are tried
 abbrev pub place_of : Rule → ℕ

@@ -1,1 +1,6 @@
 pub mod Faults
+pub mod Building
+pub mod Findings
+pub mod Lists
+pub mod Standings
+pub mod Verdicts

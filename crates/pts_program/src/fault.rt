@@ -1,5 +1,9 @@
 //! The first fault of a script.
 
+ghost use Rattle.std.specs.Prelude.{◌≡◌};
+ghost use Rattle.pts_program.specs.Faults as spec;
+
+use pts_types::NoMemory;
 use thiserror::Error;
 
 /// The rule that a script breaks first, and the number of the item that breaks it, from 1. The rules stand in their order.
@@ -41,4 +45,50 @@ pub enum BuildFault {
     /// There was no memory.
     #[error("there is no memory")]
     NoMemory,
+}
+
+/// The rules, in the order in which they are asked of an item.
+#[derive(Clone, Copy, Debug)]
+pub enum Rule {
+    Unknown,
+    Twice,
+    Mistyped,
+    TooDeep,
+    TooMany,
+    BadStep,
+    BackwardRange,
+    LengthsDiffer,
+    BadIdentity,
+    NotAffine,
+    OutOfRange,
+}
+
+/// The fault that names a rule and an item; OutOfRange names a position as well.
+pub fn fault_of(rule: Rule, item: u32, position: u64) -> BuildFault
+    ensures { result ≡ spec.fault_of rule item position }
+{
+    match rule {
+        Rule::Unknown => BuildFault::Unknown(item),
+        Rule::Twice => BuildFault::Twice(item),
+        Rule::Mistyped => BuildFault::Mistyped(item),
+        Rule::TooDeep => BuildFault::TooDeep(item),
+        Rule::TooMany => BuildFault::TooMany(item),
+        Rule::BadStep => BuildFault::BadStep(item),
+        Rule::BackwardRange => BuildFault::BackwardRange(item),
+        Rule::LengthsDiffer => BuildFault::LengthsDiffer(item),
+        Rule::BadIdentity => BuildFault::BadIdentity(item),
+        Rule::NotAffine => BuildFault::NotAffine(item),
+        Rule::OutOfRange => BuildFault::OutOfRange { item, position },
+    }
+}
+
+impl From<NoMemory> for BuildFault {
+    ghost use Rattle.std.specs.Prelude.{◌≡◌};
+    ghost use Rattle.pts_program.specs.declared.fault.BuildFault.TheVariants as faults;
+
+    ghost from_gives = { λ _ fault. fault ≡ faults.NoMemory };
+
+    fn from(_: NoMemory) -> Self {
+        BuildFault::NoMemory
+    }
 }

@@ -1,8 +1,20 @@
-//! Which scripts break a rule of the language, and what the first fault of a script is.
+//! Which scripts break a rule of the language, what the first fault of a script is, and the lists of a script without one.
 #![tactic(auto)]
 
+mod builder;
+mod checks;
 mod fault;
+mod info;
 mod laws;
+mod lengths;
+mod lists;
+mod program;
+mod standing;
+#[cfg(test)]
+mod tests;
 
+pub use builder::build;
 pub use fault::BuildFault;
+pub use info::{ArrayInfo, FunctionInfo, StatementInfo};
 pub use laws::{a_fault_or_none, one_fault};
+pub use program::Program;

@@ -1,0 +1,2 @@
+pub mod Affines
+pub mod AtScope

@@ -1,0 +1,10 @@
+pub mod Chained
+pub mod Counting
+pub mod Interiors
+pub mod Lengths
+pub mod Ranges
+pub mod ReadForms
+pub mod SoundItems
+pub mod StatementForms
+pub mod TaskForms
+pub mod Turns

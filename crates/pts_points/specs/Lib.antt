@@ -1,0 +1,3 @@
+pub mod Affines
+pub mod Inside
+pub mod Points

@@ -1,0 +1,108 @@
+-- The builder on its way through a script.
+use Rattle.std.proofs.Common.{◌≡◌, ℕ, zero, suc, ◌+◌, ◌-◌, ◌^◌, ◌<◌, ◌≤◌, ◌⊎◌, inl, inr, List, [], ◌∷◌, ◌++◌, IsSomeAnd, Option, Some, None, length, take, drop, get_or, slice_get, refl, sym, ap, ◌∙◌, subst, arith}
+use Rattle.std.proofs.lemmas.Bool.{cases_lt}
+use Rattle.std.proofs.lemmas.List.{drop_more, drop_all, length-take}
+use Rattle.std.proofs.lemmas.Option.{slice_get-get_or}
+use Rattle.pts_tree.specs.declared.script.Item.{Item}
+use Rattle.pts_tree.specs.declared.script.Script.{Script}
+use Rattle.pts_rules.specs.Scopes.{known}
+use Rattle.pts_program.specs.declared.builder.Builder.{Builder}
+use Rattle.pts_program.specs.declared.fault.BuildFault.{BuildFault}
+use Rattle.pts_program.specs.declared.fault.Rule.{Rule}
+use Rattle.pts_program.specs.declared.lists.Lists.{Lists}
+use Rattle.pts_program.specs.Building.{HasRoom, IsUnderWay}
+use Rattle.pts_program.specs.Faults.{place_of, Breaks, BreaksAt, IsFaultAt, IsPosition, IsSound, fault_of}
+use Rattle.pts_program.specs.Lists.{lists_of, no_lists, with_item, with_items}
+use Rattle.pts_program.specs.Standings.{IsStanding}
+use Rattle.pts_program.specs.Verdicts.{IsClear, IsItemFault}
+use Rattle.pts_program.proofs.Decisions.{breaks-at, holds_at, past-end, places-end}
+
+-- the item at place n, as an equation
+item_at_place : (xs : List Item) (n : ℕ) (x : Item) → n < length xs → x ≡ get_or xs n x → slice_get xs n ≡ Some x
+item_at_place xs n x within is = slice_get-get_or xs n x within ∙ ap Some (sym is)
+
+split_at : (xs : List Item) (n : ℕ) (x : Item) → n < length xs → x ≡ get_or xs n x → drop n xs ≡ x ∷ drop (n + 1) xs
+split_at xs n x within is = drop_more xs n x within ∙ ap (λ (y : Item). y ∷ drop (n + 1) xs) (sym is)
+
+front_more : (xs : List Item) (n : ℕ) (x : Item) → n < length xs → x ≡ get_or xs n x → take (n + 1) xs ≡ take n xs ++ x ∷ []
+front_more [] n x within is = absurd (omega (arith, within))
+front_more (y ∷ xs) zero x within is = ap (λ (z : Item). z ∷ []) (sym is)
+front_more (y ∷ xs) (suc n) x within is =
+    let e : suc n + 1 ≡ suc (n + 1) = omega arith in
+    ap (λ m. take m (y ∷ xs)) e ∙ ap (λ (zs : List Item). y ∷ zs) (front_more xs n x (omega (arith, within)) is)
+
+length_front : (xs : List Item) (n : ℕ) → n < length xs → length (take n xs) ≡ n
+length_front [] n within = absurd (omega (arith, within))
+length_front (y ∷ xs) zero within = refl
+length_front (y ∷ xs) (suc n) within = ap suc (length_front xs n (omega (arith, within)))
+
+-- item 0 is none
+none_before : (script : Script) (m : ℕ) (rule : Rule) → m ≤ 0 → ¬ BreaksAt script m rule
+none_before script zero rule le = λ h. h
+none_before script (suc m) rule le = absurd (omega (arith, le))
+
+pub started : (script : Script) (builder : Builder) → IsStanding [] builder.standing → builder.lists ≡ no_lists → builder.items ≡ 0 → builder.standing.statements ≡ 0
+    → IsUnderWay script 0 builder
+started script builder standing lists items none = record {
+  standing = standing;
+  lists = ap (λ (l : Lists). with_items [] l script.items) lists;
+  items = items;
+  statements = omega (arith, none);
+  sound = none_before script;
+}
+
+sound_more : (script : Script) (n : ℕ) (x : Item) → slice_get script.items n ≡ Some x → ((m : ℕ) (rule : Rule) → m ≤ n → ¬ BreaksAt script m rule)
+    → IsClear 0 11 (take n script.items) x → (m : ℕ) (rule : Rule) → m ≤ n + 1 → ¬ BreaksAt script m rule
+sound_more script n x is sound clear m rule le =
+    elim (cases_lt n m) [
+      | inl more ↦
+          let e : m ≡ n + 1 = omega (arith, more, le) in
+          λ h. clear rule (omega arith) (places-end rule) ((breaks-at script n x rule is).0 (subst (λ k. BreaksAt script k rule) e h))
+      | inr less ↦ sound m rule less
+    ]
+
+pub one_more : (script : Script) (n : ℕ) (x : Item) (old new : Builder) → IsUnderWay script n old → n < length script.items → x ≡ get_or script.items n x
+    → IsClear 0 11 (take n script.items) x → IsStanding (take n script.items ++ x ∷ []) new.standing
+    → new.lists ≡ with_item old.standing.scope (old.items + 1) old.lists x → new.items ≡ old.items + 1 → new.standing.statements ≤ old.standing.statements + 1
+    → IsUnderWay script (n + 1) new
+one_more script n x old new way within is clear standing lists items statements =
+    let front = front_more script.items n x within is in
+    let back = split_at script.items n x within is in
+    let count : length (take n script.items) + 1 ≡ old.items + 1 = ap (λ k. k + 1) (length_front script.items n within ∙ sym way.items) in
+    record {
+      standing = subst (λ (xs : List Item). IsStanding xs new.standing) (sym front) standing;
+      lists =
+          (λ i. with_items (front i) (lists i) (drop (n + 1) script.items))
+          ∙ (λ i. with_items (take n script.items ++ x ∷ []) (with_item (way.standing.scope i) (sym count i) old.lists x) (drop (n + 1) script.items))
+          ∙ ap (λ (rest : List Item). with_items (take n script.items) old.lists rest) (sym back)
+          ∙ way.lists;
+      items = let e = way.items in omega (arith, items, e);
+      statements = let s = way.statements in omega (arith, items, statements, s);
+      sound = sound_more script n x (item_at_place script.items n x within is) way.sound clear;
+    }
+
+-- behind the last item
+pub finished : (script : Script) (n : ℕ) (builder : Builder) → IsUnderWay script n builder → length script.items ≤ n → IsSound script × (builder.lists ≡ lists_of script)
+finished script n builder way past = (
+  λ m rule. elim (cases_lt n m) [ inl more ↦ past-end script m (omega (arith, more, past)) rule | inr less ↦ way.sound m rule less ],
+  ap (λ (rest : List Item). with_items (take n script.items) builder.lists rest) (sym (drop_all n script.items past)) ∙ way.lists,
+)
+
+-- the fault of an item whose earlier ones break no rule is that of the script
+pub refused : (script : Script) (n : ℕ) (x : Item) (builder : Builder) (fault : BuildFault) → IsUnderWay script n builder → n < length script.items → x ≡ get_or script.items n x
+    → IsItemFault 0 11 (take n script.items) x (builder.items + 1) fault → IsFaultAt script (n + 1) fault
+refused script n x builder fault way within is f =
+    let here = item_at_place script.items n x within is in
+    let count : builder.items + 1 ≡ n + 1 = ap (λ k. k + 1) way.items in
+    record {
+      rule = f.rule;
+      position = f.position;
+      breaks = (breaks-at script n x f.rule here).1 f.breaks;
+      earlier_items = λ m other less. way.sound m other (omega (arith, less));
+      earlier_rules = λ other less h. f.earlier other (omega arith) less ((breaks-at script n x other here).0 h);
+      first = holds_at script n x (λ before y. IsPosition f.rule before y f.position) here f.first;
+      named = f.named ∙ ap (λ k. fault_of f.rule k f.position) count;
+    }
+
+pub room : (script : Script) (n : ℕ) (builder : Builder) → IsUnderWay script n builder → n < length script.items → length script.items < 2 ^ 32 → HasRoom builder
+room script n builder way within short = record { items = let e = way.items in omega (arith, e, within, short); statements = way.statements }

@@ -1,0 +1,21 @@
+-- How far the builder has come.
+use Rattle.std.specs.Prelude.{◌≡◌, ℕ, ◌-◌, ◌<◌, ◌≤◌, ◌^◌, drop, take}
+use Rattle.pts_tree.specs.declared.script.Script.{Script}
+use Rattle.pts_program.specs.declared.builder.Builder.{Builder}
+use Rattle.pts_program.specs.declared.fault.Rule.{Rule}
+use Rattle.pts_program.specs.Faults.{BreaksAt}
+use Rattle.pts_program.specs.Lists.{lists_of, with_items}
+use Rattle.pts_program.specs.Standings.{IsStanding}
+
+-- one item more can be counted
+pub record HasRoom (builder : Builder) : Type 0 where
+  pub items : builder.items < 2 ^ 32 - 1
+  pub statements : builder.standing.statements ≤ builder.items
+
+-- the first n items of the script break no rule, and the builder has what they leave
+pub record IsUnderWay (script : Script) (n : ℕ) (builder : Builder) : Type 0 where
+  pub standing : IsStanding (take n script.items) builder.standing
+  pub lists : with_items (take n script.items) builder.lists (drop n script.items) ≡ lists_of script
+  pub items : builder.items ≡ n
+  pub statements : builder.standing.statements ≤ builder.items
+  pub sound : (m : ℕ) (rule : Rule) → m ≤ n → ¬ BreaksAt script m rule

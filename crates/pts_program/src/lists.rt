@@ -1,0 +1,204 @@
+//! The lists of a program, and what one item adds to them.
+
+ghost use Rattle.std.specs.Prelude.{◌≡◌, [], ◌∷◌, ◌++◌, IsTrue, IfOk, OnOk, option_to_list};
+ghost use Rattle.pts_tree.specs.declared.script.Item.TheVariants as items;
+ghost use Rattle.pts_points.specs.Points as points;
+ghost use Rattle.pts_rules.specs.Mistyped.{item_right};
+ghost use Rattle.pts_program.specs.Lists as spec;
+
+use crate::info::{ArrayInfo, FunctionInfo, StatementInfo};
+use crate::lengths::length_of;
+use pts_points::{CallInfo, PointInfo, add_points};
+use pts_resolve::{BlockInfo, CallText, add_blocks, add_texts, resolve_expr};
+use pts_rules::Scope;
+use pts_starts::start_cells;
+use pts_tree::{ArrayDecl, FunctionDecl, Item, Name, Param};
+use pts_types::NoMemory;
+use sqlite_items::Items;
+use std::alloc::{AllocError, Global};
+
+/// The lists of a program, each in text order.
+#[derive(Debug, Drop)]
+pub struct Lists {
+    pub arrays: Items<ArrayInfo>,
+    pub functions: Items<FunctionInfo>,
+    pub statements: Items<StatementInfo>,
+    pub calls: Items<CallInfo>,
+    pub points: Items<PointInfo>,
+    pub blocks: Items<BlockInfo>,
+    pub texts: Items<CallText>,
+}
+
+impl Lists {
+    /// The lists of no items.
+    pub fn new(alloc: Global) -> Lists
+        ensures { result ≡ spec.no_lists }
+    {
+        Lists {
+            arrays: Items::new(alloc),
+            functions: Items::new(alloc),
+            statements: Items::new(alloc),
+            calls: Items::new(alloc),
+            points: Items::new(alloc),
+            blocks: Items::new(alloc),
+            texts: Items::new(alloc),
+        }
+    }
+}
+
+fn small(n: usize) -> u32
+    ensures { result ≡ points.small n }
+{
+    if n < 4294967295 { n as u32 } else { u32::MAX }
+}
+
+fn copy_name(alloc: Global, name: &Name) -> Result<Name, AllocError>
+    ensures { IfOk result (λ copy. copy ≡ name.now) }
+{
+    Ok(Name::new(name.as_str().to_string(alloc)?))
+}
+
+fn copy_params(alloc: Global, params: &[Param]) -> Result<Items<Param>, AllocError>
+    ensures { IfOk result (λ copy. copy ≡ params.now) }
+{
+    let mut copy = Items::new(alloc);
+    for param in params {
+        copy.push(Param {
+            name: copy_name(alloc, &param.name)?,
+            kind: param.kind,
+        })?;
+    }
+    Ok(copy)
+}
+
+fn array_info(alloc: Global, scope: &Scope, array: &ArrayDecl) -> Result<ArrayInfo, NoMemory>
+    requires { IsTrue (item_right scope.now (items.Array array.now)) }
+    ensures { IfOk result (λ info. info ∷ [] ≡ spec.arrays_of scope.now (items.Array array.now)) }
+{
+    let length = length_of(scope, &array.length);
+    Ok(ArrayInfo {
+        name: copy_name(alloc, &array.name).map_err(|_| NoMemory)?,
+        kind: array.kind,
+        cells: start_cells(alloc, scope, array.kind, length, &array.start)?,
+    })
+}
+
+fn function_info(
+    alloc: Global,
+    scope: &Scope,
+    function: &FunctionDecl,
+) -> Result<FunctionInfo, AllocError>
+    ensures { IfOk result (λ info. info ∷ [] ≡ spec.functions_of scope.now (items.Function function.now)) }
+{
+    Ok(FunctionInfo {
+        name: copy_name(alloc, &function.name)?,
+        params: copy_params(alloc, function.params.as_slice())?,
+        kind: function.kind,
+        body: resolve_expr(alloc, scope, &function.body)?,
+    })
+}
+
+fn add_array(
+    alloc: Global,
+    scope: &Scope,
+    item: &Item,
+    arrays: &mut Items<ArrayInfo>,
+) -> Result<(), NoMemory>
+    requires { IsTrue (item_right scope.now item.now) }
+    ensures { OnOk result (arrays.new ≡ arrays.old ++ spec.arrays_of scope.now item.now) }
+{
+    if let Item::Array(array) = item {
+        let info = array_info(alloc, scope, array)?;
+        arrays.push(info).map_err(|_| NoMemory)?;
+    }
+    Ok(())
+}
+
+fn add_function(
+    alloc: Global,
+    scope: &Scope,
+    item: &Item,
+    functions: &mut Items<FunctionInfo>,
+) -> Result<(), AllocError>
+    ensures { OnOk result (functions.new ≡ functions.old ++ spec.functions_of scope.now item.now) }
+{
+    if let Item::Function(function) = item {
+        functions.push(function_info(alloc, scope, function)?)?;
+    }
+    Ok(())
+}
+
+fn statement_of(scope: &Scope, calls: u32, blocks: u32, item: &Item) -> Option<StatementInfo>
+    ensures { option_to_list result ≡ spec.statements_of scope.now calls blocks item.now }
+{
+    match item {
+        Item::Call(_) => Some(StatementInfo::Call(calls)),
+        Item::Loop(_) => Some(StatementInfo::Call(calls)),
+        Item::Block(_) => Some(StatementInfo::Block(blocks)),
+        Item::Print(array) => Some(StatementInfo::Print(array_at(scope, array))),
+        _ => None,
+    }
+}
+
+fn array_at(scope: &Scope, name: &Name) -> u32
+    ensures { result ≡ points.array_at scope.now name.now }
+{
+    match scope.array_number(name) {
+        Some(number) => small(number),
+        None => 0,
+    }
+}
+
+fn add_statement(
+    scope: &Scope,
+    calls: u32,
+    blocks: u32,
+    item: &Item,
+    statements: &mut Items<StatementInfo>,
+) -> Result<(), AllocError>
+    ensures { OnOk result (statements.new ≡ statements.old ++ spec.statements_of scope.now calls blocks item.now) }
+{
+    if let Some(statement) = statement_of(scope, calls, blocks, item) {
+        statements.push(statement)?;
+    }
+    Ok(())
+}
+
+fn add_names(alloc: Global, scope: &Scope, item: &Item, lists: &mut Lists) -> Result<(), NoMemory>
+    requires { IsTrue (item_right scope.now item.now) }
+    ensures { OnOk result (lists.new ≡ record lists.old {
+      arrays = lists.old.arrays ++ spec.arrays_of scope.now item.now;
+      functions = lists.old.functions ++ spec.functions_of scope.now item.now;
+    }) }
+{
+    add_array(alloc, scope, item, &mut lists.arrays)?;
+    add_function(alloc, scope, item, &mut lists.functions).map_err(|_| NoMemory)
+}
+
+/// Adds an item that is right to the lists of those before it, in the scope that these leave.
+pub fn add_item(
+    alloc: Global,
+    scope: &Scope,
+    number: u32,
+    item: &Item,
+    lists: &mut Lists,
+) -> Result<(), NoMemory>
+    requires { IsTrue (item_right scope.now item.now) }
+    ensures { OnOk result (lists.new ≡ spec.with_item scope.now number lists.old item.now) }
+{
+    let calls = small(lists.calls.len());
+    let blocks = small(lists.blocks.len());
+    add_names(alloc, scope, item, lists)?;
+    add_statement(scope, calls, blocks, item, &mut lists.statements).map_err(|_| NoMemory)?;
+    add_points(
+        alloc,
+        scope,
+        number,
+        calls,
+        item,
+        &mut lists.points,
+        &mut lists.calls,
+    )?;
+    add_blocks(alloc, scope, number, item, &mut lists.blocks)?;
+    add_texts(alloc, scope, item, &mut lists.texts)
+}

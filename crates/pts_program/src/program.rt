@@ -1,0 +1,93 @@
+//! Checked programs.
+
+ghost use Rattle.std.specs.Prelude.{◌≡◌, ◌<◌, Some, length, slice_get};
+ghost use Rattle.pts_program.specs.Lists as spec;
+
+use crate::info::{ArrayInfo, FunctionInfo, StatementInfo};
+use crate::lists::Lists;
+use pts_points::{CallInfo, PointInfo};
+use pts_resolve::{BlockInfo, CallText};
+use std::marker::Model;
+
+/// A script that breaks no rule, as lists: names are resolved, kinds agree, functions call earlier ones only, and each index
+/// is in its array at every position.
+#[derive(Drop)]
+pub struct Program {
+    lists: Lists,
+}
+
+impl Model for Program {
+    ghost use Rattle.std.specs.Coded.{codes};
+    ghost use Rattle.pts_program.specs.Lists.{IsProgram};
+    ghost use Rattle.pts_program.specs.declared.lists.Lists.{Lists};
+    ghost use Rattle.pts_tree.specs.contracts.block.TaskStmt as tasks;
+    ghost use Rattle.pts_tree.specs.contracts.expr.Expr as exprs;
+    ghost use Rattle.pts_tree.specs.contracts.loops.BodyStmt as stmts;
+
+    ghost Value = { Lists };
+
+    ghost coded = { Prim.hlevel (codes, exprs.the_row.coded, stmts.the_row.coded, tasks.the_row.coded) };
+
+    ghost view = { λ p. p.lists };
+
+    ghost invariant = { λ p. IsProgram p.lists };
+}
+
+impl Program {
+    pub(crate) fn new(lists: Lists) -> Program
+        requires { spec.IsProgram lists }
+        ensures { result ≡ lists }
+    {
+        Program { lists }
+    }
+
+    /// The arrays, in the order of their declarations.
+    pub fn arrays(&self) -> &[ArrayInfo]
+        ensures { result.now ≡ self.now.arrays }
+    {
+        self.lists.arrays.as_slice()
+    }
+
+    /// The functions, in the order of their declarations.
+    pub fn functions(&self) -> &[FunctionInfo]
+        ensures { result.now ≡ self.now.functions }
+    {
+        self.lists.functions.as_slice()
+    }
+
+    /// The statements of the script, without those inside of blocks.
+    pub fn statements(&self) -> &[StatementInfo]
+        ensures { result.now ≡ self.now.statements }
+    {
+        self.lists.statements.as_slice()
+    }
+
+    /// The calls and loops in text order, those inside of blocks as well.
+    pub fn calls(&self) -> &[CallInfo]
+        ensures { result.now ≡ self.now.calls }
+    {
+        self.lists.calls.as_slice()
+    }
+
+    /// The points in the order of their items and, in an item, of their numbers.
+    pub fn points(&self) -> &[PointInfo]
+        ensures { result.now ≡ self.now.points }
+    {
+        self.lists.points.as_slice()
+    }
+
+    /// The blocks in text order, an outer one before those inside.
+    pub fn blocks(&self) -> &[BlockInfo]
+        ensures { result.now ≡ self.now.blocks }
+    {
+        self.lists.blocks.as_slice()
+    }
+
+    /// The text of a call or loop that exists. Its names are those of the lists or local ones, and no constant is left.
+    pub fn call_text(&self, call: u32) -> &CallText
+        requires { call < length self.now.texts }
+        ensures { Some result.now ≡ slice_get self.now.texts call }
+    {
+        &self.lists.texts.as_slice()[call as usize]
+    }
+}

@@ -1,0 +1,4 @@
+pub mod Affines
+pub mod AtScope
+pub mod Firsts
+pub mod Walks
