@@ -29,25 +29,23 @@ fn filled(alloc: Global, text: &str) -> Result<Item, AllocError> {
     }))
 }
 
-fn script(first: Item, second: Item, alloc: Global) -> Result<Script, AllocError> {
+fn built(alloc: Global, first: Item, second: Item) -> Result<Program, BuildFault> {
     let mut items = Items::new(alloc);
-    items.push(first)?;
-    items.push(second)?;
-    Ok(Script { version: 1, items })
+    items.push(first).map_err(|_| BuildFault::NoMemory)?;
+    items.push(second).map_err(|_| BuildFault::NoMemory)?;
+    build(alloc, &Script { version: 1, items })
 }
 
 fn printed(alloc: Global) -> Result<Program, BuildFault> {
     let array = filled(alloc, "a").map_err(|_| BuildFault::NoMemory)?;
     let print = name(alloc, "a").map_err(|_| BuildFault::NoMemory)?;
-    let script = script(array, Item::Print(print), alloc).map_err(|_| BuildFault::NoMemory)?;
-    build(alloc, &script)
+    built(alloc, array, Item::Print(print))
 }
 
 fn fault_of(alloc: Global, first: &str, second: &str) -> Option<BuildFault> {
     let one = filled(alloc, first).ok()?;
     let other = filled(alloc, second).ok()?;
-    let script = script(one, other, alloc).ok()?;
-    build(alloc, &script).err()
+    built(alloc, one, other).err()
 }
 
 #[test]
