@@ -1,7 +1,11 @@
+pub mod CellKinds
+pub mod Clips
 pub mod Decisions
 pub mod Edges
 pub mod FirstFaults
+pub mod Insides
 pub mod ScopeEdges
+pub mod SoundStatements
 pub mod Verdicts
 pub mod Declared
 pub mod Findings

@@ -12,7 +12,7 @@ use Rattle.pts_program.specs.declared.fault.Rule.{Rule}
 use Rattle.pts_program.specs.declared.lists.Lists.{Lists}
 use Rattle.pts_program.specs.Building.{HasRoom, IsUnderWay}
 use Rattle.pts_program.specs.Faults.{place_of, Breaks, BreaksAt, IsFaultAt, IsPosition, IsSound, fault_of}
-use Rattle.pts_program.specs.Lists.{lists_of, no_lists, with_item, with_items}
+use Rattle.pts_program.specs.Lists.{lists_of, no_lists, with_item, with_items, IsProgram}
 use Rattle.pts_program.specs.Standings.{IsStanding}
 use Rattle.pts_program.specs.Verdicts.{IsClear, IsItemFault}
 use Rattle.pts_program.proofs.Decisions.{breaks-at, holds_at, past-end, places-end}
@@ -87,6 +87,12 @@ finished script n builder way past = (
   λ m rule. elim (cases_lt n m) [ inl more ↦ past-end script m (omega (arith, more, past)) rule | inr less ↦ way.sound m rule less ],
   ap (λ (rest : List Item). with_items (take n script.items) builder.lists rest) (sym (drop_all n script.items past)) ∙ way.lists,
 )
+
+-- and then the lists are those of a program
+pub programmed : (script : Script) (n : ℕ) (builder : Builder) → IsUnderWay script n builder → length script.items ≤ n → length script.items < 2 ^ 32 → IsProgram builder.lists
+programmed script n builder way past few =
+    let end = finished script n builder way past in
+    record { script = script; sound = end.0; few = few; made = end.1 }
 
 -- the fault of an item whose earlier ones break no rule is that of the script
 pub refused : (script : Script) (n : ℕ) (x : Item) (builder : Builder) (fault : BuildFault) → IsUnderWay script n builder → n < length script.items → x ≡ get_or script.items n x

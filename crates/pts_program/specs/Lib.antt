@@ -2,5 +2,6 @@ pub mod Faults
 pub mod Building
 pub mod Findings
 pub mod Lists
+pub mod Ranges
 pub mod Standings
 pub mod Verdicts

@@ -1,5 +1,5 @@
 -- The lists of a script: arrays, functions, statements, calls, points, blocks and texts, in text order.
-use Rattle.std.specs.Prelude.{◌≡◌, ℕ, ◌+◌, List, [], ◌∷◌, ◌++◌, length}
+use Rattle.std.specs.Prelude.{◌≡◌, ℕ, ◌+◌, ◌<◌, ◌^◌, List, [], ◌∷◌, ◌++◌, length, map, take, drop, slice_get, None, Some}
 use Rattle.pts_tree.specs.declared.script.Item.{Item}
 use Rattle.pts_tree.specs.declared.script.Item.TheVariants as items
 use Rattle.pts_tree.specs.declared.script.Script.{Script}
@@ -9,6 +9,8 @@ use Rattle.pts_program.specs.declared.info.FunctionInfo.{FunctionInfo}
 use Rattle.pts_resolve.specs.Resolved.{resolved_expr}
 use Rattle.pts_resolve.specs.Texts.{texts_of}
 use Rattle.pts_resolve.specs.Blocks.{blocks_of}
+use Rattle.pts_points.specs.declared.point.CallInfo.{CallInfo}
+use Rattle.pts_points.specs.declared.point.PointInfo.{PointInfo}
 use Rattle.pts_points.specs.Points.{array_at, calls_of, points_of, small}
 use Rattle.pts_starts.specs.Starts.{start_cells}
 use Rattle.pts_program.specs.declared.info.ArrayInfo.{ArrayInfo}
@@ -36,9 +38,13 @@ statements_of scope calls blocks (items.Block x) = statement_infos.Block blocks 
 statements_of scope calls blocks (items.Print x) = statement_infos.Print (array_at scope x) ∷ []
 statements_of scope calls blocks x = []
 
+-- how many points stand before those of a call, where this many are those of earlier items
+abbrev pub start_of : ℕ → CallInfo → ℕ
+start_of earlier call = small (earlier + call.first_point)
+
 -- no items
 abbrev pub no_lists : Lists
-no_lists = record { arrays = []; functions = []; statements = []; calls = []; points = []; blocks = []; texts = [] }
+no_lists = record { arrays = []; functions = []; statements = []; calls = []; points = []; blocks = []; texts = []; call_starts = [] }
 
 -- item n more, in the scope that the items before it leave
 abbrev pub with_item : Scope → ℕ → Lists → Item → Lists
@@ -52,6 +58,7 @@ with_item scope n lists x =
       points = lists.points ++ points_of scope n calls x;
       blocks = lists.blocks ++ blocks_of scope n x;
       texts = lists.texts ++ texts_of scope x;
+      call_starts = lists.call_starts ++ map (start_of (length lists.points)) (calls_of scope n calls x);
     }
 
 -- items behind those before them
@@ -63,6 +70,17 @@ with_items before lists (x ∷ rest) = with_items (before ++ x ∷ []) (with_ite
 abbrev pub lists_of : Script → Lists
 lists_of script = with_items [] no_lists script.items
 
--- the lists of a script that breaks no rule
-abbrev pub IsProgram : Lists → Type 0
-IsProgram lists = (script : Script) × IsSound script × (lists ≡ lists_of script)
+-- the points of a call; none where there is no such call
+abbrev pub points_of_call : Lists → ℕ → List PointInfo
+points_of_call lists call =
+    elim (slice_get lists.call_starts call) [
+      | None ↦ []
+      | Some start ↦ elim (slice_get lists.calls call) [ None ↦ [] | Some info ↦ take info.points (drop start lists.points) ]
+    ]
+
+-- the lists of a script of fewer than 2^32 items that breaks no rule
+pub record IsProgram (lists : Lists) : Type 0 where
+  pub script : Script
+  pub sound : IsSound script
+  pub few : length script.items < 2 ^ 32
+  pub made : lists ≡ lists_of script

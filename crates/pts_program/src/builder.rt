@@ -59,7 +59,7 @@ impl Builder {
 
 /// The program of a script of less than 2^32 items, or the fault of its first item that breaks a rule, which names the first
 /// rule that it breaks.
-#[tactic(auto, using(crate::proofs::Ways::started, crate::proofs::Ways::one_more, crate::proofs::Ways::finished, crate::proofs::Ways::refused, crate::proofs::Ways::room))]
+#[tactic(auto, using(crate::proofs::Ways::started, crate::proofs::Ways::one_more, crate::proofs::Ways::finished, crate::proofs::Ways::programmed, crate::proofs::Ways::refused, crate::proofs::Ways::room))]
 pub fn build(alloc: Global, script: &Script) -> Result<Program, BuildFault>
     requires { length script.now.items < 2 ^ 32 }
     ensures program { IfOk result (λ program. IsSound script.now × (program ≡ spec.lists_of script.now)) }

@@ -1,9 +1,12 @@
 //! What the rules say of every script.
 
-ghost use Rattle.std.specs.Prelude.{◌≡◌, ◌⊎◌, ℕ};
+ghost use Rattle.std.specs.Prelude.{◌≡◌, ◌⊎◌, ℕ, All};
 ghost use Rattle.pts_tree.specs.declared.script.Script.{Script};
 ghost use Rattle.pts_program.specs.declared.fault.BuildFault.{BuildFault};
+ghost use Rattle.pts_program.specs.declared.lists.Lists.{Lists};
 ghost use Rattle.pts_program.specs.Faults.{IsFaultAt, IsSound};
+ghost use Rattle.pts_program.specs.Lists.{IsProgram};
+ghost use Rattle.pts_program.specs.Ranges.{IsInRange, IsOfKind};
 
 /// No script has two faults.
 pub fn one_fault()
@@ -15,4 +18,14 @@ pub fn one_fault()
 pub fn a_fault_or_none()
     ensures one { (script : Script) → ((item : ℕ) × (fault : BuildFault) × IsFaultAt script item fault) ⊎ IsSound script }
     ensures other { (script : Script) (item : ℕ) (fault : BuildFault) → IsFaultAt script item fault → ¬ IsSound script }
+{}
+
+/// At each of its positions every point of a program is at a cell that its array has.
+pub fn every_index_in_range()
+    ensures { (lists : Lists) → IsProgram lists → All (IsInRange lists.arrays) lists.points }
+{}
+
+/// Every cell of a program has the kind of its array at the start.
+pub fn every_cell_has_its_kind()
+    ensures { (lists : Lists) → IsProgram lists → All IsOfKind lists.arrays }
 {}

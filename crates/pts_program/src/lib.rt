@@ -16,5 +16,7 @@ mod tests;
 pub use builder::build;
 pub use fault::BuildFault;
 pub use info::{ArrayInfo, FunctionInfo, StatementInfo};
-pub use laws::{a_fault_or_none, one_fault};
+pub use laws::{a_fault_or_none, every_cell_has_its_kind, every_index_in_range, one_fault};
 pub use program::Program;
+pub use pts_points::{Branch, CallInfo, PointForm, PointInfo};
+pub use pts_resolve::{BlockInfo, CallText};

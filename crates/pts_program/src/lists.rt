@@ -1,6 +1,6 @@
 //! The lists of a program, and what one item adds to them.
 
-ghost use Rattle.std.specs.Prelude.{◌≡◌, [], ◌∷◌, ◌++◌, IsTrue, IfOk, OnOk, option_to_list};
+ghost use Rattle.std.specs.Prelude.{◌≡◌, [], ◌∷◌, ◌++◌, map, IsTrue, IfOk, OnOk, option_to_list};
 ghost use Rattle.pts_tree.specs.declared.script.Item.TheVariants as items;
 ghost use Rattle.pts_points.specs.Points as points;
 ghost use Rattle.pts_rules.specs.Mistyped.{item_right};
@@ -27,6 +27,8 @@ pub struct Lists {
     pub points: Items<PointInfo>,
     pub blocks: Items<BlockInfo>,
     pub texts: Items<CallText>,
+    /// How many points, of all items, stand before those of each call.
+    pub call_starts: Items<u32>,
 }
 
 impl Lists {
@@ -42,6 +44,7 @@ impl Lists {
             points: Items::new(alloc),
             blocks: Items::new(alloc),
             texts: Items::new(alloc),
+            call_starts: Items::new(alloc),
         }
     }
 }
@@ -175,6 +178,16 @@ fn add_names(alloc: Global, scope: &Scope, item: &Item, lists: &mut Lists) -> Re
     add_function(alloc, scope, item, &mut lists.functions).map_err(|_| NoMemory)
 }
 
+// The starts of calls of one item, before whose points this many stand.
+fn add_starts(before: usize, calls: &[CallInfo], starts: &mut Items<u32>) -> Result<(), AllocError>
+    ensures { OnOk result (starts.new ≡ starts.old ++ map (spec.start_of before) calls.now) }
+{
+    for call in calls {
+        starts.push(small(before.saturating_add(call.first_point as usize)))?;
+    }
+    Ok(())
+}
+
 /// Adds an item that is right to the lists of those before it, in the scope that these leave.
 pub fn add_item(
     alloc: Global,
@@ -188,6 +201,8 @@ pub fn add_item(
 {
     let calls = small(lists.calls.len());
     let blocks = small(lists.blocks.len());
+    let first_call = lists.calls.len();
+    let first_point = lists.points.len();
     add_names(alloc, scope, item, lists)?;
     add_statement(scope, calls, blocks, item, &mut lists.statements).map_err(|_| NoMemory)?;
     add_points(
@@ -199,6 +214,8 @@ pub fn add_item(
         &mut lists.points,
         &mut lists.calls,
     )?;
+    let new_calls = &lists.calls.as_slice()[first_call..];
+    add_starts(first_point, new_calls, &mut lists.call_starts).map_err(|_| NoMemory)?;
     add_blocks(alloc, scope, number, item, &mut lists.blocks)?;
     add_texts(alloc, scope, item, &mut lists.texts)
 }

@@ -1,0 +1,12 @@
+//! The cells of a running program, and what its statements do with them.
+#![tactic(auto)]
+
+mod store;
+#[cfg(test)]
+mod tests;
+mod unbuilt;
+mod work;
+
+pub use store::Store;
+pub use unbuilt::later;
+pub use work::{Work, work_of};
