@@ -1,5 +1,5 @@
 -- The code of each form of expression from the codes of its parts.
-use Rattle.std.proofs.Common.{◌≡◌, ℕ, ◌≤◌, true, false, if◌then◌else◌, Option, Some, None, Result, Ok, Err, IfOk, List, [], ◌∷◌, length, map, slice_get, ℤ, pos, neg_ℤ, refl, sym, ap, ◌∙◌, arith}
+use Rattle.std.proofs.Common.{◌≡◌, ℕ, ◌≤◌, true, false, if◌then◌else◌, Option, Some, None, Result, Ok, Err, IfOk, List, [], ◌∷◌, length, map, slice_get, ℤ, pos, neg_ℤ, refl, sym, ap, ◌∙◌, subst, arith}
 use Rattle.std.specs.Prelude.{unwrap_or}
 use Rattle.std.specs.Option.{option_or}
 use Rattle.std.proofs.lemmas.Bool.{le-leb}
@@ -15,7 +15,7 @@ use Rattle.pts_tree.specs.declared.expr.Expr.{Expr}
 use Rattle.pts_tree.specs.declared.expr.Expr.TheVariants as e
 use Rattle.pts_tree.specs.declared.expr.ChainPart.{ChainPart}
 use Rattle.pts_rules.specs.declared.meaning.Signature.{Signature}
-use Rattle.pts_rules.specs.Known.{Scope, constant_of, function_of, function_number, value_number}
+use Rattle.pts_rules.specs.Known.{Scope, function_of, function_number, value_number}
 use Rattle.pts_rules.specs.Kinds.{typing}
 use Rattle.pts_code.specs.declared.code.Code.{Code}
 use Rattle.pts_code.specs.declared.code.Code.TheVariants as c
@@ -23,11 +23,11 @@ use Rattle.pts_code.specs.declared.code.Step.{Step}
 use Rattle.pts_code.specs.Codes.{gives, local, call_of}
 use Rattle.pts_code.specs.Compiling.{Means, IsCode, AreArguments, AreTruths, AreSteps, scope_of_names, Holds, part_at, step_at}
 use Rattle.pts_code.specs.Outcomes.{Outcome, Gives, and_then, never, inverted, in_order, from_left, all_of, any_of, choice}
-use Rattle.pts_code.specs.Values.{Environment, Valuation, Part, valuation, number_value, name_valuation, call_valuation, minus_valuation, bound_to, at_kinds, truths, Function}
+use Rattle.pts_code.specs.Values.{Environment, Valuation, Part, valuation, number_value, throw_code, name_valuation, call_valuation, minus_valuation, bound_to, at_kinds, truths, Function}
 use Rattle.pts_code.proofs.Given.{gives-Value, gives-Local, gives-Throw, gives-Call, gives-Convert, gives-Negate, gives-Not, gives-Chain, gives-All, gives-Any, gives-If}
-use Rattle.pts_code.proofs.Lookups.{no_constant, local_at, Found, function_found, params_known}
+use Rattle.pts_code.proofs.Lookups.{IsLost, no_local, no_function, local_at, Found, function_found, params_known}
 use Rattle.pts_code.proofs.SameKinds.{own_same, literal_same}
-use Rattle.pts_code.proofs.Valuations.{valued-Number, valued-True, valued-False, valued-Name, valued-Call, valued-Convert, valued-Throw, valued-Paren, valued-Minus, valued-Not, valued-Chain, valued-Compare, valued-All, valued-Any, valued-If}
+use Rattle.pts_code.proofs.Valuations.{valued-Number, valued-True, valued-False, valued-Name, valued-Call, valued-Element, valued-Convert, valued-Throw, valued-Paren, valued-Minus, valued-Not, valued-Chain, valued-Compare, valued-All, valued-Any, valued-If}
 
 module _ (scope : Scope) (kind : Kind) where
   -- what a valuation gives at the kind
@@ -51,14 +51,32 @@ module _ (scope : Scope) (kind : Kind) where
         ∙ sym (ap at (valued-Name env name));
   }
 
-  -- an environment has no constants
-  pub is-constant : (name : List ℕ) (z : ℤ) (code : Code) → constant_of scope name ≡ Some z → IsCode scope kind (e.Name name) code
-  is-constant name z code found = record {
-    means = λ env given frame is holds. absurd (none-some z (sym (no_constant env name) ∙ ap (λ s. constant_of s name) (sym is) ∙ found));
+  -- names that the rules do not let through
+
+  pub is-unknown : (name : List ℕ) → value_number scope name ≡ None → IsCode scope kind (e.Name name) (c.Value (values.U64 0))
+  is-unknown name lost = record {
+    means = λ env given frame is holds.
+        gives-Value given frame (values.U64 0)
+        ∙ sym (no_local env name kind (ap (λ s. value_number s name) (sym is) ∙ lost))
+        ∙ sym (ap at (valued-Name env name));
   }
 
-  pub is-Throw : (n : ℕ) → IsCode scope kind (e.Throw n) (c.Throw n)
-  is-Throw n = record { means = λ env given frame is holds. gives-Throw given frame n ∙ sym (ap at (valued-Throw env n)) }
+  lost_too : (env : Environment) (name : List ℕ) → scope ≡ scope_of_names env → IsLost scope name → IsLost (scope_of_names env) name
+  lost_too env name is lost = subst (λ s. IsLost s name) is lost
+
+  pub is-lost : (name : List ℕ) (xs : List Expr) → IsLost scope name → IsCode scope kind (e.Call name xs) (c.Value (values.U64 0))
+  is-lost name xs lost = record {
+    means = λ env given frame is holds.
+        gives-Value given frame (values.U64 0)
+        ∙ sym (no_function env name (map (valuation env) xs) kind (lost_too env name is lost))
+        ∙ sym (ap at (valued-Call env name xs));
+  }
+
+  pub is-Element : (name : List ℕ) (x : Expr) → IsCode scope kind (e.Element name x) (c.Value (values.U64 0))
+  is-Element name x = record { means = λ env given frame is holds. gives-Value given frame (values.U64 0) ∙ sym (ap at (valued-Element env name x)) }
+
+  pub is-Throw : (n : ℕ) → IsCode scope kind (e.Throw n) (c.Throw (throw_code n))
+  is-Throw n = record { means = λ env given frame is holds. gives-Throw given frame (throw_code n) ∙ sym (ap at (valued-Throw env n)) }
 
   pub is-Paren : (x : Expr) (code : Code) → IsCode scope kind x code → IsCode scope kind (e.Paren x) code
   is-Paren x code h = record { means = λ env given frame is holds. h.means env given frame is holds ∙ sym (ap at (valued-Paren env x)) }

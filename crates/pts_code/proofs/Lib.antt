@@ -2,7 +2,6 @@ pub mod Calls
 pub mod Chains
 pub mod CodeFolds
 pub mod ExprWeights
-pub mod Fitting
 pub mod Forms
 pub mod Given
 pub mod Lists
@@ -12,5 +11,6 @@ pub mod SameKinds
 pub mod Scopes
 pub mod Small
 pub mod Steps
+pub mod Truths
 pub mod Valuations
 pub mod Weights

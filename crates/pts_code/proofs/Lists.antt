@@ -1,46 +1,19 @@
--- Codes of lists, one element on, and what fits in a list.
-use Rattle.std.proofs.Common.{◌≡◌, IsTrue, ℕ, zero, suc, ◌+◌, ◌-◌, ◌<◌, ◌≤◌, false, ◌&&◌, List, [], ◌∷◌, ◌++◌, length, get_or, take, map, refl, sym, ap, ◌∙◌, subst, arith}
-use Rattle.std.proofs.lemmas.Bool.{false≢true}
+-- Codes of lists, one element on.
+use Rattle.std.proofs.Common.{◌≡◌, ◌⊎◌, inl, inr, ℕ, zero, suc, ◌+◌, ◌-◌, ◌<◌, ◌≤◌, min, List, [], ◌∷◌, ◌++◌, length, get_or, take, map, refl, sym, ap, ◌∙◌, subst, arith}
+use Rattle.std.proofs.lemmas.Bool.{cases_lt}
+use Rattle.std.proofs.Math.Nat.{min-eq_left, min-eq_right}
 use Rattle.std.proofs.lemmas.List.{take_more, take_all, map-append, length-take-le, length-map}
 use Rattle.pts_types.specs.declared.value.Kind.{Kind}
 use Rattle.pts_types.specs.declared.value.Kind.TheVariants as kinds
 use Rattle.pts_tree.specs.declared.expr.Expr.{Expr}
 use Rattle.pts_tree.specs.declared.expr.ChainPart.{ChainPart}
 use Rattle.pts_rules.specs.Known.{Scope}
-use Rattle.pts_rules.specs.Kinds.{Typing, typing, fits, each_fits, arguments_fit}
 use Rattle.pts_code.specs.declared.code.Code.{Code}
 use Rattle.pts_code.specs.declared.code.Step.{Step}
 use Rattle.pts_code.specs.Codes.{gives}
 use Rattle.pts_code.specs.Compiling.{Means, IsCode, AreArguments, AreTruths, AreSteps, part_at, step_at}
 use Rattle.pts_code.specs.Outcomes.{Outcome}
 use Rattle.pts_code.specs.Values.{Environment, Valuation, valuation, at_kinds, truths}
-use Rattle.pts_code.proofs.Fitting.{and_left, and_right}
-
--- ---- what fits
-
-abbrev pub Fit : Scope → Kind → Expr → Type 0
-Fit scope kind x = IsTrue (fits false scope kind x)
-
-pub fits_at : {A : Type 0} (kind : Kind) (t : A → Typing) (xs : List A) (n : ℕ) (x : A) → IsTrue (each_fits kind (map t xs)) → n < length xs → x ≡ get_or xs n x → IsTrue ((t x).fits kind)
-fits_at kind t [] n x h within is = absurd (omega (arith, within))
-fits_at kind t (y ∷ ys) zero x h within is = subst (λ z. IsTrue ((t z).fits kind)) (sym is) (and_left ((t y).fits kind) (each_fits kind (map t ys)) h)
-fits_at kind t (y ∷ ys) (suc n) x h within is = fits_at kind t ys n x (and_right ((t y).fits kind) (each_fits kind (map t ys)) h) (omega (arith, within)) is
-
-pub arguments_same : (t : Expr → Typing) (ks : List Kind) (xs : List Expr) → IsTrue (arguments_fit ks (map t xs)) → length ks ≡ length xs
-arguments_same t [] [] h = refl
-arguments_same t [] (x ∷ xs) h = absurd (false≢true h)
-arguments_same t (k ∷ ks) [] h = absurd (false≢true h)
-arguments_same t (k ∷ ks) (x ∷ xs) h = omega (arith, arguments_same t ks xs (and_right ((t x).fits k) (arguments_fit ks (map t xs)) h))
-
-pub argument_fits : (t : Expr → Typing) (ks : List Kind) (xs : List Expr) (n : ℕ) (d : Kind) (x : Expr)
-    → IsTrue (arguments_fit ks (map t xs)) → n < length xs → x ≡ get_or xs n x → IsTrue ((t x).fits (get_or ks n d))
-argument_fits t ks [] n d x h within is = absurd (omega (arith, within))
-argument_fits t [] (y ∷ ys) n d x h within is = absurd (false≢true h)
-argument_fits t (k ∷ ks) (y ∷ ys) zero d x h within is = subst (λ z. IsTrue ((t z).fits k)) (sym is) (and_left ((t y).fits k) (arguments_fit ks (map t ys)) h)
-argument_fits t (k ∷ ks) (y ∷ ys) (suc n) d x h within is =
-    argument_fits t ks ys n d x (and_right ((t y).fits k) (arguments_fit ks (map t ys)) h) (omega (arith, within)) is
-
--- ---- codes
 
 -- a list and one element more
 abbrev more : {A : Type 0} → List A → A → List A
@@ -84,21 +57,35 @@ at_kinds_one (j ∷ js) [] k v e = absurd (omega (arith, e))
 at_kinds_one (j ∷ js) (w ∷ ws) k v e = ap (λ rest. w.value j ∷ rest) (at_kinds_one js ws k v (omega (arith, e)))
 
 pub arguments_one : (scope : Scope) (ks : List Kind) (xs : List Expr) (codes : List Code) (n : ℕ) (d : Kind) (x : Expr) (code : Code)
-    → AreArguments scope (take n ks) (take n xs) codes → length ks ≡ length xs → n < length xs → x ≡ get_or xs n x → IsCode scope (get_or ks n d) x code
+    → AreArguments scope (take n ks) (take n xs) codes → n < length ks → n < length xs → x ≡ get_or xs n x → IsCode scope (get_or ks n d) x code
     → AreArguments scope (take (n + 1) ks) (take (n + 1) xs) (codes ++ code ∷ [])
-arguments_one scope ks xs codes n d x code h same within is one = record {
+arguments_one scope ks xs codes n d x code h known within is one = record {
   means = λ env given frame s holds.
       let k = get_or ks n d in
       let vs = map (valuation env) (take n xs) in
-      let lengths : length (take n ks) ≡ length vs = omega (arith, same, within, length-take-le n ks (omega (arith, same, within)), length-take-le n xs (omega (arith, within)), length-map (take n xs) (valuation env)) in
+      let lengths : length (take n ks) ≡ length vs = omega (arith, known, within, length-take-le n ks (omega (arith, known)), length-take-le n xs (omega (arith, within)), length-map (take n xs) (valuation env)) in
       map-append (gives given frame) codes (code ∷ [])
       ∙ (λ i. h.means env given frame s holds i ++ one.means env given frame s holds i ∷ [])
       ∙ sym (at_kinds_one (take n ks) vs k (valuation env x) lengths)
       ∙ ap (at_kinds (more (take n ks) k)) (sym (map-append (valuation env) (take n xs) (x ∷ [])))
-      ∙ (λ i. at_kinds (sym (take_more ks n d (omega (arith, same, within))) i) (map (valuation env) (sym (take_one xs n x within is) i)));
+      ∙ (λ i. at_kinds (sym (take_more ks n d known) i) (map (valuation env) (sym (take_one xs n x within is) i)));
 }
 
+-- as many as there are on both sides
+fewest : (a b n : ℕ) → min a b ≤ n → (a ≤ n) ⊎ (b ≤ n)
+fewest a b n h = elim (cases_lt a b) [ inl lt ↦ inl (omega (arith, h, min-eq_left {n = a} {m = b} (omega (arith, lt)))) | inr le ↦ inr (omega (arith, h, min-eq_right {n = b} {m = a} le)) ]
+
+enough : (f : Expr → Valuation) (ks : List Kind) (xs : List Expr) (n : ℕ) → (length ks ≤ n) ⊎ (length xs ≤ n) → at_kinds (take n ks) (map f (take n xs)) ≡ at_kinds ks (map f xs)
+enough f [] xs zero all = refl
+enough f [] xs (suc n) all = refl
+enough f (k ∷ ks) [] zero all = refl
+enough f (k ∷ ks) [] (suc n) all = refl
+enough f (k ∷ ks) (x ∷ xs) zero (inl all) = absurd (omega (arith, all))
+enough f (k ∷ ks) (x ∷ xs) zero (inr all) = absurd (omega (arith, all))
+enough f (k ∷ ks) (x ∷ xs) (suc n) (inl all) = ap (λ rest. (f x).value k ∷ rest) (enough f ks xs n (inl (omega (arith, all))))
+enough f (k ∷ ks) (x ∷ xs) (suc n) (inr all) = ap (λ rest. (f x).value k ∷ rest) (enough f ks xs n (inr (omega (arith, all))))
+
 pub arguments_all : (scope : Scope) (ks : List Kind) (xs : List Expr) (codes : List Code) (n : ℕ)
-    → AreArguments scope (take n ks) (take n xs) codes → length ks ≡ length xs → length xs ≤ n → AreArguments scope ks xs codes
-arguments_all scope ks xs codes n h same all =
-    subst (λ js. AreArguments scope js xs codes) (take_all n ks (omega (arith, same, all))) (subst (λ ys. AreArguments scope (take n ks) ys codes) (take_all n xs all) h)
+    → AreArguments scope (take n ks) (take n xs) codes → min (length ks) (length xs) ≤ n → AreArguments scope ks xs codes
+arguments_all scope ks xs codes n h all =
+    record { means = λ env given frame s holds. h.means env given frame s holds ∙ enough (valuation env) ks xs n (fewest (length ks) (length xs) n all) }

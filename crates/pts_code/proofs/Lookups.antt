@@ -1,17 +1,18 @@
 -- What the names of an environment's scope stand for.
-use Rattle.std.proofs.Common.{◌≡◌, ℕ, ◌+◌, ◌≤◌, Bool, true, false, cond, if◌then◌else◌, fold, Option, Some, None, Ok, List, [], ◌∷◌, length, slice_get, option_map, option_and_then, count_by, bytes_eq, refl, sym, ap, ◌∙◌}
+use Rattle.std.proofs.Common.{◌≡◌, ◌⊎◌, inl, inr, ℕ, ◌+◌, ◌≤◌, Bool, true, false, cond, if◌then◌else◌, fold, Option, Some, None, Ok, List, [], ◌∷◌, length, slice_get, option_map, option_and_then, count_by, bytes_eq, refl, sym, ap, ◌∙◌}
 use Rattle.std.specs.Prelude.{unwrap_or}
 use Rattle.std.proofs.lemmas.Option.{none-some}
 use Rattle.pts_types.specs.declared.value.Kind.{Kind}
 use Rattle.pts_types.specs.declared.value.Value.{Value}
+use Rattle.pts_rules.specs.declared.meaning.Meaning.{Meaning}
 use Rattle.pts_rules.specs.declared.meaning.Signature.{Signature}
-use Rattle.pts_rules.specs.Known.{Entry, meaning_of, constant_of, as_constant, function_of, as_function, is_value, function_number, value_number}
+use Rattle.pts_rules.specs.Known.{Entry, Scope, meaning_of, number_among, function_of, as_function, is_value, function_number, value_number}
 use Rattle.pts_rules.specs.Known as known
 use Rattle.pts_rules.specs.Parts.{Name}
 use Rattle.pts_code.specs.Codes.{local}
 use Rattle.pts_code.specs.Compiling.{Holds, meaning_of_bound, scope_of_names, is_local, is_function, locals, functions}
-use Rattle.pts_code.specs.Outcomes.{Gives}
-use Rattle.pts_code.specs.Values.{Bound, Local, Function, FunctionValue, Environment, bound_to, name_valuation}
+use Rattle.pts_code.specs.Outcomes.{Gives, never}
+use Rattle.pts_code.specs.Values.{Bound, Local, Function, FunctionValue, Environment, Valuation, bound_to, name_valuation, call_valuation}
 
 pub meaning_is : (env : Environment) (name : Name) → meaning_of (scope_of_names env) name ≡ option_map meaning_of_bound (bound_to env name)
 meaning_is [] name = refl
@@ -20,15 +21,6 @@ meaning_is (entry ∷ env) name =
       | true ↦ refl
       | false ↦ meaning_is env name
     ]
-
-constant_bound : (o : Option Bound) → option_and_then as_constant (option_map meaning_of_bound o) ≡ None
-constant_bound None = refl
-constant_bound (Some (Local kind value)) = refl
-constant_bound (Some (Function f)) = refl
-
--- no name is a constant
-pub no_constant : (env : Environment) (name : Name) → constant_of (scope_of_names env) name ≡ None
-no_constant env name = ap (option_and_then as_constant) (meaning_is env name) ∙ constant_bound (bound_to env name)
 
 -- ---- numbers
 
@@ -106,3 +98,45 @@ pub params_known : (env : Environment) (name : Name) (f : FunctionValue) (s : Si
     → bound_to env name ≡ Some (Function f) → function_of (scope_of_names env) name ≡ Some s → s.params ≡ f.params
 params_known env name f s bound found =
     ap params_of (sym found ∙ ap (option_and_then as_function) (meaning_is env name ∙ ap (option_map meaning_of_bound) bound))
+
+-- ---- names without a number
+
+-- a name that stands for something of a sort has a number among those of the sort
+number_there : (is_one : Meaning → Bool) (names : Scope) (name : Name) (m : Meaning) → meaning_of names name ≡ Some m → is_one m ≡ true → number_among is_one names name ≡ None → ⊥
+number_there is_one [] name m is one lost = none-some m is
+number_there is_one (entry ∷ names) name m is one lost =
+    elim (bytes_eq name entry.0) as (λ b.
+    (if b then Some entry.1 else meaning_of names name) ≡ Some m
+    → (if b then (if is_one entry.1 then Some (count_by (λ (e : Entry). is_one e.1) names) else None) else number_among is_one names name) ≡ None
+    → ⊥) [
+      | true ↦ λ found none.
+          none-some (count_by (λ (e : Entry). is_one e.1) names)
+          (sym none ∙ ap (λ b. if b then Some (count_by (λ (e : Entry). is_one e.1) names) else None) (ap is_one (ap (λ o. unwrap_or o m) found) ∙ one))
+      | false ↦ λ found none. number_there is_one names name m found one none
+    ] is lost
+
+no_value : (names : Scope) (name : Name) (o : Option Bound) → meaning_of names name ≡ option_map meaning_of_bound o → value_number names name ≡ None
+    → (kind : Kind) → (name_valuation o).value kind ≡ never
+no_value names name None is lost kind = refl
+no_value names name (Some (Local own value)) is lost kind = absurd (number_there is_value names name (meaning_of_bound (Local own value)) is refl lost)
+no_value names name (Some (Function f)) is lost kind = refl
+
+-- a name that is not a parameter's has no value
+pub no_local : (env : Environment) (name : Name) (kind : Kind) → value_number (scope_of_names env) name ≡ None → (name_valuation (bound_to env name)).value kind ≡ never
+no_local env name kind lost = no_value (scope_of_names env) name (bound_to env name) (meaning_is env name) lost kind
+
+-- no function, or one without a number
+abbrev pub IsLost : Scope → Name → Type 0
+IsLost names name = (function_of names name ≡ None) ⊎ (function_number names name ≡ None)
+
+no_called : (names : Scope) (name : Name) (o : Option Bound) (xs : List Valuation) → meaning_of names name ≡ option_map meaning_of_bound o → IsLost names name
+    → (kind : Kind) → (call_valuation o xs).value kind ≡ never
+no_called names name None xs is lost kind = refl
+no_called names name (Some (Local own value)) xs is lost kind = refl
+no_called names name (Some (Function f)) xs is (inl lost) kind =
+    absurd (none-some _ (sym lost ∙ ap (option_and_then as_function) is))
+no_called names name (Some (Function f)) xs is (inr lost) kind = absurd (number_there known.is_function names name (meaning_of_bound (Function f)) is refl lost)
+
+-- a name that is not a function's gives nothing where it is called
+pub no_function : (env : Environment) (name : Name) (xs : List Valuation) (kind : Kind) → IsLost (scope_of_names env) name → (call_valuation (bound_to env name) xs).value kind ≡ never
+no_function env name xs kind lost = no_called (scope_of_names env) name (bound_to env name) xs (meaning_is env name) lost kind

@@ -15,11 +15,11 @@ use Rattle.pts_code.specs.declared.code.Code.{Code}
 use Rattle.pts_code.specs.declared.function.FunctionInfo.{FunctionInfo}
 use Rattle.pts_code.specs.Codes.{gives, local, functions_of, with_code}
 use Rattle.pts_code.specs.Compiling.{Holds, IsCode, IsCompiled, has_few, is_local, is_function, locals, functions, scope_of_names}
-use Rattle.pts_code.specs.Functions.{first_value, with_params, function_value, with_function, environment_of, outcome_of, gives_after, gives_of, with_signature, scope_of, body_scope, IsTyped}
+use Rattle.pts_code.specs.Functions.{first_value, with_params, function_value, with_function, environment_of, outcome_of, gives_after, gives_of, with_signature, scope_of, body_scope}
 use Rattle.pts_code.specs.Outcomes.{Gives, never}
 use Rattle.pts_code.specs.Values.{Bound, Local, Function, FunctionValue, Environment, value_of}
 use Rattle.pts_code.proofs.Calls.{functions_length}
-use Rattle.pts_code.proofs.Fitting.{and_left, and_right}
+use Rattle.pts_code.proofs.Truths.{and_left, and_right}
 use Rattle.pts_code.proofs.Numbering.{get_push, get_kept}
 
 -- ---- scopes

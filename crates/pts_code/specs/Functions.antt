@@ -1,11 +1,10 @@
 -- What functions give, each of which calls earlier ones only.
-use Rattle.std.specs.Prelude.{ℕ, ◌≤◌, IsTrue, false, length, Option, Some, None, List, [], ◌∷◌, fold, map, take, drop, slice_get}
+use Rattle.std.specs.Prelude.{ℕ, Option, Some, None, List, [], ◌∷◌, fold, map, take, drop, slice_get}
 use Rattle.pts_types.specs.declared.value.Kind.{Kind}
 use Rattle.pts_types.specs.declared.value.Value.{Value}
 use Rattle.pts_types.specs.declared.value.Value.TheVariants as values
 use Rattle.pts_tree.specs.declared.script.Param.{Param}
 use Rattle.pts_rules.specs.declared.meaning.Meaning.TheVariants as meanings
-use Rattle.pts_rules.specs.Kinds.{fits}
 use Rattle.pts_rules.specs.Known.{Scope}
 use Rattle.pts_rules.specs.Scopes.{param_entry}
 use Rattle.pts_code.specs.declared.function.FunctionInfo.{FunctionInfo}
@@ -56,7 +55,7 @@ gives_after env (f ∷ fs) = (function_value env f).gives ∷ gives_after (with_
 abbrev pub gives_of : List FunctionInfo → List Gives
 gives_of functions = gives_after [] functions
 
--- ---- where a body may stand
+-- ---- names in scope
 
 -- a function as a name in scope
 abbrev pub with_signature : Scope → FunctionInfo → Scope
@@ -69,8 +68,3 @@ scope_of functions = fold with_signature [] functions
 -- and these parameters as well
 abbrev pub body_scope : Scope → List Param → Scope
 body_scope scope params = fold (λ names p. param_entry p ∷ names) scope params
-
--- the body has the kind of its function, and the function no more than eight parameters
-pub record IsTyped (before : List FunctionInfo) (f : FunctionInfo) : Type 0 where
-  pub body : IsTrue (fits false (body_scope (scope_of before) f.params) f.kind f.body)
-  pub few : length f.params ≤ 8

@@ -1,6 +1,6 @@
 -- The value of an expression.
 use Rattle.std.specs.Option.{option_or}
-use Rattle.std.specs.Prelude.{ℕ, Bool, true, false, not, if◌then◌else◌, unwrap_or, Option, Some, None, Ok, Err, List, [], ◌∷◌, map, ℤ, pos, neg_ℤ}
+use Rattle.std.specs.Prelude.{ℕ, Bool, true, false, min, if◌then◌else◌, unwrap_or, Option, Some, None, Ok, Err, List, [], ◌∷◌, map, ℤ, pos, neg_ℤ}
 use Rattle.std.specs.Ordering.{int_eq}
 use Rattle.std.specs.Str.{bytes_eq}
 use Rattle.pts_types.specs.Arithmetic.{converted, negated}
@@ -13,7 +13,7 @@ use Rattle.pts_types.specs.declared.value.Value.TheVariants as values
 use Rattle.pts_tree.specs.declared.expr.Expr.{Expr}
 use Rattle.pts_tree.specs.declared.expr.Expr.TheOpen.{Expr-F, ChainPart-F}
 use Rattle.pts_tree.specs.declared.expr.Expr.TheFolds.{fold-Expr}
-use Rattle.pts_rules.specs.Known.{natural}
+use Rattle.pts_rules.specs.Known.{holds, natural}
 use Rattle.pts_rules.specs.Parts.{Name}
 use Rattle.pts_code.specs.Outcomes.{Outcome, Gives, and_then, never, inverted, in_order, from_left, all_of, any_of, choice}
 
@@ -56,15 +56,23 @@ bare value = record { literal = None; own = None; value = value }
 abbrev pub of_kind : Kind → Outcome → Valuation
 of_kind kind outcome = record { literal = None; own = Some kind; value = λ asked. outcome }
 
--- the value of a kind with this number
+-- the value of a kind with this number, which is one of the kind
+abbrev pub value_with : Kind → ℤ → Value
+value_with kinds.I64 z = values.I64 z
+value_with kinds.U64 z = values.U64 (natural z)
+value_with kinds.Bool z = values.Bool (int_eq z (pos 1))
+
+-- a number at a kind; in place of one that the kind does not hold, which no expression that keeps the rules has, stands 0
 abbrev pub number_value : Kind → ℤ → Value
-number_value kinds.I64 z = values.I64 z
-number_value kinds.U64 z = values.U64 (natural z)
-number_value kinds.Bool z = values.Bool (not (int_eq z (pos 0)))
+number_value kind z = value_with kind (if holds kind z then z else pos 0)
 
 -- a number by itself
 abbrev pub literal_of : ℤ → Valuation
 literal_of z = record { literal = Some z; own = None; value = λ asked. Ok (number_value asked z) }
+
+-- the code of a `throw`; the rules let no code beyond 999 through
+abbrev pub throw_code : ℕ → ℕ
+throw_code n = min n 999
 
 -- a parameter is its value
 abbrev pub name_valuation : Option Bound → Valuation
@@ -124,7 +132,7 @@ valuation_step env (Expr-F.Name name) = name_valuation (bound_to env name)
 valuation_step env (Expr-F.Call name xs) = call_valuation (bound_to env name) xs
 valuation_step env (Expr-F.Element name x) = bare (λ asked. never)
 valuation_step env (Expr-F.Convert to x) = of_kind to (and_then (x.value (unwrap_or x.own to)) (converted to))
-valuation_step env (Expr-F.Throw n) = bare (λ asked. Err (throws.Code n))
+valuation_step env (Expr-F.Throw n) = bare (λ asked. Err (throws.Code (throw_code n)))
 valuation_step env (Expr-F.Paren x) = record x { literal = None }
 valuation_step env (Expr-F.Minus x) = minus_valuation x x.literal
 valuation_step env (Expr-F.Not x) = of_kind kinds.Bool (and_then (x.value kinds.Bool) (λ value. Ok (inverted value)))

@@ -1,9 +1,8 @@
 //! Functions in order, ready to be called.
 
-ghost use Rattle.std.specs.Prelude.{◌≡◌, ◌<◌, ◌≤◌, [], ◌∷◌, ◌++◌, IsTrue, IfOk, OnOk, false, length, map};
-ghost use Rattle.pts_rules.specs.Kinds.{fits};
+ghost use Rattle.std.specs.Prelude.{◌≡◌, ◌<◌, ◌≤◌, [], ◌∷◌, ◌++◌, IfOk, OnOk, length, map};
 ghost use Rattle.pts_code.specs.Compiling.{IsCode, IsCompiled};
-ghost use Rattle.pts_code.specs.Functions.{IsTyped, body_scope, kinds_of, outcome_of, with_signature};
+ghost use Rattle.pts_code.specs.Functions.{body_scope, kinds_of, outcome_of, with_signature};
 
 use crate::code::Code;
 use crate::compile::compile;
@@ -81,7 +80,6 @@ pub(crate) fn enter_function(
 }
 
 fn compile_body(scope: &mut Scope, alloc: Global, function: &FunctionInfo) -> Result<Code, NoMemory>
-    requires { IsTrue (fits false (body_scope scope.old function.now.params) function.now.kind function.now.body) }
     ensures code { IfOk result (λ code. IsCode (body_scope scope.old function.now.params) function.now.kind function.now.body code) }
     ensures same { OnOk result (scope.new ≡ scope.old) }
 {
@@ -127,7 +125,7 @@ impl Codes {
 
     /// One function more, behind those that it may call. It has at most eight parameters.
     pub fn push(self, alloc: Global, function: FunctionInfo) -> Result<Codes, NoMemory>
-        requires { IsTyped self function }
+        requires { length function.params ≤ 8 }
         ensures { IfOk result (λ codes. codes ≡ self ++ function ∷ []) }
     {
         let Codes {

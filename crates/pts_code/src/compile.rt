@@ -1,13 +1,15 @@
 //! From expressions to code.
 
-ghost use Rattle.std.specs.Prelude.{◌≡◌, ◌<◌, ◌^◌, false, IsTrue, IfOk, IfSome, map, nat_abs, option_map};
+ghost use Rattle.std.specs.Prelude.{◌≡◌, ◌<◌, ◌^◌, false, IfOk, IfSome, map, nat_abs, option_map};
 ghost use Rattle.std.specs.Option.{option_copied};
 ghost use Rattle.pts_rules.specs.Kinds as spec;
 ghost use Rattle.pts_rules.specs.Known as known;
+ghost use Rattle.pts_types.specs.declared.value.Value.TheVariants as values;
+ghost use Rattle.pts_code.specs.declared.code.Code.TheVariants as codes;
 ghost use Rattle.pts_code.specs.Compiling.{AreArguments, AreSteps, AreTruths, IsCode};
 
 use crate::code::{Code, Step};
-use crate::values::{literal_value, number_value, opposite};
+use crate::values::{literal_value, number_value, opposite, throw_code};
 use pts_rules::{Meaning, Scope, Signature};
 use pts_tree::{ChainPart, Expr, Name};
 use pts_types::{Kind, ScalarOp, Value};
@@ -118,16 +120,19 @@ fn minus_kind(scope: &Scope, operand: &Expr) -> Option<Kind>
     }
 }
 
-fn compile_name(scope: &Scope, kind: Kind, name: &Name) -> Code
-    requires { IsTrue (spec.fits false scope.now kind (Expr.Name name.now)) }
-    ensures { IsCode scope.now kind (Expr.Name name.now) result }
+// Where an expression breaks a rule.
+fn no_code() -> Code
+    ensures { result ≡ codes.Value (values.U64 0) }
 {
-    match scope.constant(name) {
-        Some(number) => Code::Value(number_value(kind, number)),
-        None => match scope.value_number(name) {
-            Some(number) => Code::Local(number),
-            None => unreachable!(),
-        },
+    Code::Value(Value::U64(0))
+}
+
+fn compile_name(scope: &Scope, name: &Name) -> Code
+    ensures { (kind : Kind) → IsCode scope.now kind (Expr.Name name.now) result }
+{
+    match scope.value_number(name) {
+        Some(number) => Code::Local(number),
+        None => no_code(),
     }
 }
 
@@ -138,11 +143,10 @@ fn compile_arguments(
     kinds: &[Kind],
     arguments: &[Expr],
 ) -> Result<Items<Code>, AllocError>
-    requires { IsTrue (spec.arguments_fit kinds.now (map (spec.typing false scope.now) arguments.now)) }
     ensures { IfOk result (λ codes. AreArguments scope.now kinds.now arguments.now codes) }
 {
     let mut codes = Items::new(alloc);
-    for at in 0..arguments.len() {
+    for at in 0..kinds.len().min(arguments.len()) {
         codes.push(compile(alloc, scope, kinds[at], &arguments[at])?)?;
     }
     Ok(codes)
@@ -155,14 +159,13 @@ fn compile_call(
     name: &Name,
     arguments: &[Expr],
 ) -> Result<Code, AllocError>
-    requires { (kind : Kind) × IsTrue (spec.fits false scope.now kind (Expr.Call name.now arguments.now)) }
     ensures { IfOk result (λ code. (kind : Kind) → IsCode scope.now kind (Expr.Call name.now arguments.now) code) }
 {
     let Some(signature) = signature_of(scope, name) else {
-        unreachable!()
+        return Ok(no_code());
     };
     let Some(number) = scope.function_number(name) else {
-        unreachable!()
+        return Ok(no_code());
     };
     let codes = compile_arguments(alloc, scope, signature.params.as_slice(), arguments)?;
     Ok(Code::Call(number, codes))
@@ -175,7 +178,6 @@ fn compile_boxed(
     kind: Kind,
     expr: &Expr,
 ) -> Result<Boxed<Code>, AllocError>
-    requires { IsTrue (spec.fits false scope.now kind expr.now) }
     ensures { IfOk result (λ code. IsCode scope.now kind expr.now code) }
 {
     Boxed::new(alloc, compile(alloc, scope, kind, expr)?)
@@ -188,7 +190,6 @@ fn compile_minus(
     kind: Kind,
     operand: &Expr,
 ) -> Result<Code, AllocError>
-    requires { IsTrue (spec.fits false scope.now kind (Expr.Minus operand.now)) }
     ensures { IfOk result (λ code. IsCode scope.now kind (Expr.Minus operand.now) code) }
 {
     match literal(scope, operand) {
@@ -204,7 +205,6 @@ fn compile_parts(
     kind: Kind,
     parts: &[ChainPart],
 ) -> Result<Items<Step>, AllocError>
-    requires { IsTrue (spec.each_fits kind (map (λ y. spec.typing false scope.now y.operand) parts.now)) }
     ensures { IfOk result (λ steps. AreSteps scope.now kind parts.now steps) }
 {
     let mut steps = Items::new(alloc);
@@ -226,7 +226,6 @@ fn compile_compare(
     left: &Expr,
     right: &Expr,
 ) -> Result<Code, AllocError>
-    requires { (kind : Kind) × IsTrue (spec.fits false scope.now kind (Expr.Compare op left.now right.now)) }
     ensures { IfOk result (λ code. (kind : Kind) → IsCode scope.now kind (Expr.Compare op left.now right.now) code) }
 {
     let kind = own_kind(scope, left)
@@ -241,7 +240,6 @@ fn compile_compare(
 
 #[cycle(compile)]
 fn compile_each(alloc: Global, scope: &Scope, exprs: &[Expr]) -> Result<Items<Code>, AllocError>
-    requires { IsTrue (spec.each_fits Kind.Bool (map (spec.typing false scope.now) exprs.now)) }
     ensures { IfOk result (λ codes. AreTruths scope.now exprs.now codes) }
 {
     let mut codes = Items::new(alloc);
@@ -260,7 +258,6 @@ fn compile_if(
     then: &Expr,
     other: &Expr,
 ) -> Result<Code, AllocError>
-    requires { IsTrue (spec.fits false scope.now kind (Expr.If test.now then.now other.now)) }
     ensures { IfOk result (λ code. IsCode scope.now kind (Expr.If test.now then.now other.now) code) }
 {
     let test = compile_boxed(alloc, scope, Kind::Bool, test)?;
@@ -271,21 +268,20 @@ fn compile_if(
 /// The code of an expression at the kind that its place asks.
 #[cycle(compile)]
 pub fn compile(alloc: Global, scope: &Scope, kind: Kind, expr: &Expr) -> Result<Code, AllocError>
-    requires { IsTrue (spec.fits false scope.now kind expr.now) }
     ensures { IfOk result (λ code. IsCode scope.now kind expr.now code) }
 {
     match expr {
         Expr::Number(number) => Ok(Code::Value(literal_value(kind, *number))),
         Expr::True => Ok(Code::Value(Value::Bool(true))),
         Expr::False => Ok(Code::Value(Value::Bool(false))),
-        Expr::Name(name) => Ok(compile_name(scope, kind, name)),
+        Expr::Name(name) => Ok(compile_name(scope, name)),
         Expr::Call(name, arguments) => compile_call(alloc, scope, name, arguments.as_slice()),
-        Expr::Element(..) => unreachable!(),
+        Expr::Element(..) => Ok(no_code()),
         Expr::Convert(to, operand) => {
             let from = own_kind(scope, operand.get()).unwrap_or(*to);
             Ok(Code::Convert(*to, compile_boxed(alloc, scope, from, operand.get())?))
         }
-        Expr::Throw(code) => Ok(Code::Throw(*code as u16)),
+        Expr::Throw(code) => Ok(Code::Throw(throw_code(*code))),
         Expr::Paren(inner) => compile(alloc, scope, kind, inner.get()),
         Expr::Minus(operand) => compile_minus(alloc, scope, kind, operand.get()),
         Expr::Not(operand) => Ok(Code::Not(compile_boxed(

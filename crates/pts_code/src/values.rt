@@ -1,31 +1,35 @@
 //! Steps on values that have a meaning at values of every kind.
 
-ghost use Rattle.std.specs.Prelude.{◌≡◌, ◌<◌, ◌^◌, IsTrue, nat_abs, neg_ℤ, pos};
+ghost use Rattle.std.specs.Prelude.{◌≡◌, ◌<◌, ◌^◌, nat_abs, neg_ℤ, pos};
 ghost use Rattle.pts_types.specs.Arithmetic as arithmetic;
-ghost use Rattle.pts_rules.specs.Known.{holds};
 ghost use Rattle.pts_code.specs.Outcomes as spec;
 ghost use Rattle.pts_code.specs.Values as valued;
 
 use pts_types::{Kind, ScalarOp, Thrown, Value, apply, negate};
 
-/// The value of a kind with this number.
+/// The value of a kind with this number; with 0 where the kind does not hold it.
 pub fn number_value(kind: Kind, number: i128) -> Value
-    requires { IsTrue (holds kind number) }
     ensures { result ≡ valued.number_value kind number }
 {
     match kind {
-        Kind::I64 => Value::I64(number as i64),
-        Kind::U64 => Value::U64(number as u64),
-        Kind::Bool => Value::Bool(number != 0),
+        Kind::I64 => Value::I64(i64::try_from(number).unwrap_or(0)),
+        Kind::U64 => Value::U64(u64::try_from(number).unwrap_or(0)),
+        Kind::Bool => Value::Bool(number == 1),
     }
 }
 
 /// The same of a number that a script writes.
 pub fn literal_value(kind: Kind, number: u64) -> Value
-    requires { IsTrue (holds kind (pos number)) }
     ensures { result ≡ valued.number_value kind (pos number) }
 {
     number_value(kind, i128::from(number))
+}
+
+/// The code of a `throw`, which is at most 999.
+pub fn throw_code(code: u64) -> u16
+    ensures { result ≡ valued.throw_code code }
+{
+    code.min(999) as u16
 }
 
 /// A number with its sign turned.

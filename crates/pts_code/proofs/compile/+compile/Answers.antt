@@ -1,4 +1,5 @@
-use Rattle.std.proofs.Common.{◌≡◌, IsTrue, ℕ, ◌+◌, ◌<◌, ◌≤◌, true, false, map, length, get_or, take, Some, None, ◌∷◌, [], ◌++◌, ℤ, neg_ℤ, refl, sym, ap, ◌∙◌, subst, arith}
+use Rattle.std.proofs.Common.{◌≡◌, inl, inr, ℕ, ◌+◌, ◌<◌, ◌≤◌, true, false, map, length, get_or, take, Some, None, ◌∷◌, [], ◌++◌, ℤ, neg_ℤ, refl, sym, ap, ◌∙◌, subst, arith}
+use Rattle.std.proofs.Math.Nat.{min-le_left, min-le_right}
 use Rattle.std.specs.Prelude.{unwrap_or}
 use Rattle.std.specs.Option.{option_or, option_copied}
 use Rattle.pts_types.specs.declared.value.Kind.{Kind}
@@ -7,15 +8,14 @@ use Rattle.pts_types.specs.declared.value.Value.TheVariants as values
 use Rattle.pts_tree.specs.declared.expr.Expr.{Expr}
 use Rattle.pts_tree.specs.declared.expr.Expr.TheVariants as e
 use Rattle.pts_tree.specs.declared.expr.ChainPart.{ChainPart}
-use Rattle.pts_rules.specs.Known.{holds, function_of}
-use Rattle.pts_rules.specs.Kinds.{typing, fits, each_fits, arguments_fit}
+use Rattle.pts_rules.specs.Known.{function_of}
+use Rattle.pts_rules.specs.Kinds.{typing}
 use Rattle.pts_code.specs.declared.code.Code.{Code}
 use Rattle.pts_code.specs.declared.code.Code.TheVariants as codes
 use Rattle.pts_code.specs.Compiling.{IsCode, AreArguments, AreTruths, AreSteps}
 use Rattle.pts_code.specs.Values.{number_value}
 use Rattle.pts_code.proofs.ExprWeights as weigh
 use Rattle.pts_code.proofs.ExprWeights.{weight, weights, part_weights}
-use Rattle.pts_code.proofs.Fitting as fit
 use Rattle.pts_code.proofs.Forms as form
 use Rattle.pts_code.proofs.Lists as list
 use Rattle.pts_code.proofs.Small.{read_back}
@@ -24,14 +24,12 @@ use Rattle.pts_code.proofs.compile.«+compile».Goals as goal
 -- ---- arguments
 
 pub compile_arguments-bounds-kinds-at : goal.compile_arguments-bounds-kinds-at
-compile_arguments-bounds-kinds-at t c =
-    omega (arith, c.loop-at-test.true, list.arguments_same (typing false c.args.scope.now) c.args.kinds.now c.args.arguments.now c.requires)
+compile_arguments-bounds-kinds-at t c = omega (arith, c.loop-at-test.true, c.min-at-end.ensures, min-le_left (length c.args.kinds.now) (length c.args.arguments.now))
 
 pub compile_arguments-compile-requires : goal.compile_arguments-compile-requires
-compile_arguments-compile-requires t c = (
-  omega (arith, c.decreases, weigh.weight_below c.args.arguments.now c.loop-at.at c.index-arguments-at.result c.loop-at-test.true c.index-arguments-at.is),
-  list.argument_fits (typing false c.args.scope.now) c.args.kinds.now c.args.arguments.now c.loop-at.at kinds.I64 c.index-arguments-at.result c.requires c.loop-at-test.true c.index-arguments-at.is,
-)
+compile_arguments-compile-requires t c =
+    let within : c.loop-at.at < length c.args.arguments.now = omega (arith, c.loop-at-test.true, c.min-at-end.ensures, min-le_right (length c.args.kinds.now) (length c.args.arguments.now)) in
+    omega (arith, c.decreases, weigh.weight_below c.args.arguments.now c.loop-at.at c.index-arguments-at.result within c.index-arguments-at.is)
 
 pub compile_arguments-loop-at-preserved : goal.compile_arguments-loop-at-preserved
 compile_arguments-loop-at-preserved t c =
@@ -40,33 +38,31 @@ compile_arguments-loop-at-preserved t c =
     let at = c.loop-at.at in
     subst (AreArguments c.args.scope.now (take (at + 1) ks) (take (at + 1) xs)) (sym c.in_ok-push.ensures.ok)
     (list.arguments_one c.args.scope.now ks xs c.loop-at.codes at kinds.I64 c.index-arguments-at.result c.in_ok-compile.field-0 c.loop-at.invariant
-    (list.arguments_same (typing false c.args.scope.now) c.args.kinds.now c.args.arguments.now c.requires)
-    c.loop-at-test.true c.index-arguments-at.is c.in_ok-compile.ensures)
+    (omega (arith, c.loop-at-test.true, c.min-at-end.ensures, min-le_left (length c.args.kinds.now) (length c.args.arguments.now)))
+    (omega (arith, c.loop-at-test.true, c.min-at-end.ensures, min-le_right (length c.args.kinds.now) (length c.args.arguments.now)))
+    c.index-arguments-at.is c.in_ok-compile.ensures)
 
 pub compile_arguments-returns : goal.compile_arguments-returns
 compile_arguments-returns t c =
     list.arguments_all c.args.scope.now c.args.kinds.now c.args.arguments.now c.loop-at.codes c.loop-at.at c.loop-at.invariant
-    (list.arguments_same (typing false c.args.scope.now) c.args.kinds.now c.args.arguments.now c.requires)
-    (omega (arith, c.loop-at-test.false))
+    (omega (arith, c.loop-at-test.false, c.min-at-end.ensures))
 
 -- ---- calls
 
 pub compile_call-compile_arguments-requires : goal.compile_call-compile_arguments-requires
-compile_call-compile_arguments-requires t c =
-    let known : function_of c.args.scope.now c.args.name.now ≡ Some c.in-Some.signature.now = sym c.signature_of.ensures ∙ ap option_copied c.in-Some.is in (
-      omega (arith, c.decreases),
-      subst (λ ks. IsTrue (arguments_fit ks (map (typing false c.args.scope.now) c.args.arguments.now))) (sym c.as_slice.ensures)
-          (fit.fits-arguments c.args.scope.now c.requires.0 c.args.name.now c.args.arguments.now c.in-Some.signature.now known c.requires.1),
-    )
+compile_call-compile_arguments-requires t c = omega (arith, c.decreases)
 
-pub compile_call-unreachable-requires : goal.compile_call-unreachable-requires
-compile_call-unreachable-requires t c =
-    fit.function_known c.args.scope.now c.requires.0 c.args.name.now c.args.arguments.now (sym c.signature_of.ensures ∙ ap option_copied c.in_default.is) c.requires.1
+pub compile_call-returns-in_default : goal.compile_call-returns-in_default
+compile_call-returns-in_default t c =
+    λ kind.
+    subst (IsCode c.args.scope.now kind (e.Call c.args.name.now c.args.arguments.now)) (sym c.no_code.ensures)
+    (form.is-lost c.args.scope.now kind c.args.name.now c.args.arguments.now (inl (sym c.signature_of.ensures ∙ ap option_copied c.in_default.is)))
 
-pub compile_call-unreachable-requires-in_default-function_number : goal.compile_call-unreachable-requires-in_default-function_number
-compile_call-unreachable-requires-in_default-function_number t c =
-    let known : function_of c.args.scope.now c.args.name.now ≡ Some c.in-Some.signature.now = sym c.signature_of.ensures ∙ ap option_copied c.in-Some.is in
-    fit.function_numbered c.args.scope.now c.requires.0 c.args.name.now c.in-Some.signature.now known (sym c.function_number.ensures ∙ c.in_default-function_number.is)
+pub compile_call-returns-in_default-function_number : goal.compile_call-returns-in_default-function_number
+compile_call-returns-in_default-function_number t c =
+    λ kind.
+    subst (IsCode c.args.scope.now kind (e.Call c.args.name.now c.args.arguments.now)) (sym c.no_code-in_default-function_number.ensures)
+    (form.is-lost c.args.scope.now kind c.args.name.now c.args.arguments.now (inr (sym c.function_number.ensures ∙ c.in_default-function_number.is)))
 
 pub compile_call-returns : goal.compile_call-returns
 compile_call-returns t c =
@@ -80,17 +76,10 @@ compile_call-returns t c =
 -- ---- `-`
 
 pub compile_boxed-compile-requires : goal.compile_boxed-compile-requires
-compile_boxed-compile-requires t c = (omega (arith, c.decreases), c.requires)
-
-pub compile_minus-number_value-requires : goal.compile_minus-number_value-requires
-compile_minus-number_value-requires t c =
-    let turned : c.opposite.result ≡ neg_ℤ c.in-Some.number = c.opposite.ensures.value ∙ ap neg_ℤ (read_back c.in-Some.number c.in-Some.ensures.small) in
-    subst (λ n. IsTrue (holds c.args.kind n)) (sym (read_back c.opposite.result c.opposite.ensures.small ∙ turned))
-    (fit.minus_number c.args.scope.now c.args.kind c.args.operand.now c.in-Some.number (sym c.literal.ensures.value ∙ c.in-Some.is) c.requires)
+compile_boxed-compile-requires t c = omega (arith, c.decreases)
 
 pub compile_minus-compile_boxed-requires : goal.compile_minus-compile_boxed-requires
-compile_minus-compile_boxed-requires t c =
-    (omega (arith, c.decreases), fit.minus_fits c.args.scope.now c.args.kind c.args.operand.now (sym c.literal.ensures.value ∙ c.in-None.is) c.requires)
+compile_minus-compile_boxed-requires t c = omega (arith, c.decreases)
 
 pub compile_minus-returns-in-Some : goal.compile_minus-returns-in-Some
 compile_minus-returns-in-Some t c =
@@ -107,10 +96,7 @@ compile_minus-returns-in_ok-compile_boxed-in-None t c =
 -- ---- chains and comparisons
 
 pub compile_parts-compile-requires : goal.compile_parts-compile-requires
-compile_parts-compile-requires t c = (
-  omega (arith, c.decreases, weigh.part_weight_below c.args.parts.now c.loop-part.part-index c.part-item.result c.loop-part-test.true c.part-item.is),
-  list.fits_at c.args.kind (λ (y : ChainPart). typing false c.args.scope.now y.operand) c.args.parts.now c.loop-part.part-index c.part-item.result c.requires c.loop-part-test.true c.part-item.is,
-)
+compile_parts-compile-requires t c = omega (arith, c.decreases, weigh.part_weight_below c.args.parts.now c.loop-part.part-index c.part-item.result c.loop-part-test.true c.part-item.is)
 
 pub compile_parts-loop-part-preserved : goal.compile_parts-loop-part-preserved
 compile_parts-loop-part-preserved t c =
@@ -124,22 +110,10 @@ compile_parts-returns t c =
     list.steps_all c.args.scope.now c.args.kind c.args.parts.now c.loop-part.steps c.loop-part.part-index c.loop-part.invariant (omega (arith, c.loop-part-test.false))
 
 pub compile_compare-compile_boxed-requires : goal.compile_compare-compile_boxed-requires
-compile_compare-compile_boxed-requires t c =
-    let kind = unwrap_or (option_or (typing false c.args.scope.now c.args.left.now).own (typing false c.args.scope.now c.args.right.now).own) kinds.U64 in
-    let is : c.unwrap_or-kind.result ≡ kind = c.unwrap_or-kind.ensures ∙ ap (λ o. unwrap_or o kinds.U64) (c.or.ensures ∙ (λ i. option_or (c.own_kind.ensures i) (c.own_kind-2.ensures i))) in (
-      omega (arith, c.decreases),
-      subst (λ k. IsTrue (fits false c.args.scope.now k c.args.left.now)) (sym is)
-          (fit.left_fits c.args.scope.now c.requires.0 c.args.op c.args.left.now c.args.right.now c.requires.1),
-    )
+compile_compare-compile_boxed-requires t c = omega (arith, c.decreases)
 
 pub compile_compare-compile-requires : goal.compile_compare-compile-requires
-compile_compare-compile-requires t c =
-    let kind = unwrap_or (option_or (typing false c.args.scope.now c.args.left.now).own (typing false c.args.scope.now c.args.right.now).own) kinds.U64 in
-    let is : c.unwrap_or-kind.result ≡ kind = c.unwrap_or-kind.ensures ∙ ap (λ o. unwrap_or o kinds.U64) (c.or.ensures ∙ (λ i. option_or (c.own_kind.ensures i) (c.own_kind-2.ensures i))) in (
-      omega (arith, c.decreases),
-      subst (λ k. IsTrue (fits false c.args.scope.now k c.args.right.now)) (sym is)
-          (fit.right_fits c.args.scope.now c.requires.0 c.args.op c.args.left.now c.args.right.now c.requires.1),
-    )
+compile_compare-compile-requires t c = omega (arith, c.decreases)
 
 pub compile_compare-returns : goal.compile_compare-returns
 compile_compare-returns t c =
@@ -157,10 +131,7 @@ compile_compare-returns t c =
 -- ---- truths
 
 pub compile_each-compile-requires : goal.compile_each-compile-requires
-compile_each-compile-requires t c = (
-  omega (arith, c.decreases, weigh.weight_below c.args.exprs.now c.loop-expr.expr-index c.expr-item.result c.loop-expr-test.true c.expr-item.is),
-  list.fits_at kinds.Bool (typing false c.args.scope.now) c.args.exprs.now c.loop-expr.expr-index c.expr-item.result c.requires c.loop-expr-test.true c.expr-item.is,
-)
+compile_each-compile-requires t c = omega (arith, c.decreases, weigh.weight_below c.args.exprs.now c.loop-expr.expr-index c.expr-item.result c.loop-expr-test.true c.expr-item.is)
 
 pub compile_each-loop-expr-preserved : goal.compile_each-loop-expr-preserved
 compile_each-loop-expr-preserved t c =
@@ -176,13 +147,13 @@ compile_each-returns t c =
 -- ---- choices
 
 pub compile_if-compile_boxed-requires : goal.compile_if-compile_boxed-requires
-compile_if-compile_boxed-requires t c = (omega (arith, c.decreases), fit.fits-If-test c.args.scope.now c.args.kind c.args.test.now c.args.then.now c.args.other.now c.requires)
+compile_if-compile_boxed-requires t c = omega (arith, c.decreases)
 
 pub compile_if-compile_boxed-requires-2 : goal.compile_if-compile_boxed-requires-2
-compile_if-compile_boxed-requires-2 t c = (omega (arith, c.decreases), fit.fits-If-then c.args.scope.now c.args.kind c.args.test.now c.args.then.now c.args.other.now c.requires)
+compile_if-compile_boxed-requires-2 t c = omega (arith, c.decreases)
 
 pub compile_if-compile_boxed-requires-3 : goal.compile_if-compile_boxed-requires-3
-compile_if-compile_boxed-requires-3 t c = (omega (arith, c.decreases), fit.fits-If-else c.args.scope.now c.args.kind c.args.test.now c.args.then.now c.args.other.now c.requires)
+compile_if-compile_boxed-requires-3 t c = omega (arith, c.decreases)
 
 pub compile_if-returns : goal.compile_if-returns
 compile_if-returns t c =
@@ -193,88 +164,38 @@ compile_if-returns t c =
 
 -- ---- expressions
 
-pub compile-unreachable-requires : goal.compile-unreachable-requires
-compile-unreachable-requires t c = fit.no_element c.args.scope.now c.args.kind c.in-Element.field-0 c.in-Element.field-1 (subst (λ x. IsTrue (fits false c.args.scope.now c.args.kind x)) c.in-Element.is c.requires)
-
-pub compile-overflow_cast-result : goal.compile-overflow_cast-result
-compile-overflow_cast-result t c = omega (arith, fit.fits-Throw c.args.scope.now c.args.kind c.in-Throw.code (subst (λ x. IsTrue (fits false c.args.scope.now c.args.kind x)) c.in-Throw.is c.requires))
-
-pub compile-literal_value-requires : goal.compile-literal_value-requires
-compile-literal_value-requires t c = fit.fits-Number c.args.scope.now c.args.kind c.in-Number.number (subst (λ x. IsTrue (fits false c.args.scope.now c.args.kind x)) c.in-Number.is c.requires)
-
-pub compile-compile_name-requires : goal.compile-compile_name-requires
-compile-compile_name-requires t c = subst (λ x. IsTrue (fits false c.args.scope.now c.args.kind x)) c.in-Name.is c.requires
-
 pub compile-compile_call-requires : goal.compile-compile_call-requires
-compile-compile_call-requires t c = (
-  omega (arith, c.decreases, ap weight c.in-Call.is, weigh.weight-Call c.in-Call.name c.in-Call.arguments, ap weights c.as_slice.ensures),
-  (c.args.kind, subst (λ xs. IsTrue (fits false c.args.scope.now c.args.kind (e.Call c.in-Call.name xs))) (sym c.as_slice.ensures) (subst (λ x. IsTrue (fits false c.args.scope.now c.args.kind x)) c.in-Call.is c.requires)),
-)
+compile-compile_call-requires t c = omega (arith, c.decreases, ap weight c.in-Call.is, weigh.weight-Call c.in-Call.name c.in-Call.arguments, ap weights c.as_slice.ensures)
 
 pub compile-compile_boxed-requires : goal.compile-compile_boxed-requires
-compile-compile_boxed-requires t c =
-    let to = c.in-Convert.to in
-    let operand = c.in-Convert.operand in
-    let is : c.unwrap_or-from.result ≡ unwrap_or (typing false c.args.scope.now operand).own to =
-    c.unwrap_or-from.ensures ∙ ap (λ o. unwrap_or o to) (c.own_kind.ensures ∙ ap (λ x. (typing false c.args.scope.now x).own) c.get.ensures) in (
-      omega (arith, c.decreases, ap weight c.in-Convert.is, weigh.weight-Convert to operand, ap weight c.get-in-Convert.ensures),
-      subst IsTrue (λ i. fits false c.args.scope.now (sym is i) (sym c.get-in-Convert.ensures i)) (fit.fits-Convert c.args.scope.now c.args.kind to operand (subst (λ x. IsTrue (fits false c.args.scope.now c.args.kind x)) c.in-Convert.is c.requires)),
-    )
+compile-compile_boxed-requires t c = omega (arith, c.decreases, ap weight c.in-Convert.is, weigh.weight-Convert c.in-Convert.to c.in-Convert.operand, ap weight c.get-in-Convert.ensures)
 
 pub compile-compile-requires : goal.compile-compile-requires
-compile-compile-requires t c = (
-  omega (arith, c.decreases, ap weight c.in-Paren.is, weigh.weight-Paren c.in-Paren.inner, ap weight c.get-in-Paren.ensures),
-  subst (λ x. IsTrue (fits false c.args.scope.now c.args.kind x)) (sym c.get-in-Paren.ensures) (fit.fits-Paren c.args.scope.now c.args.kind c.in-Paren.inner (subst (λ x. IsTrue (fits false c.args.scope.now c.args.kind x)) c.in-Paren.is c.requires)),
-)
+compile-compile-requires t c = omega (arith, c.decreases, ap weight c.in-Paren.is, weigh.weight-Paren c.in-Paren.inner, ap weight c.get-in-Paren.ensures)
 
 pub compile-compile_minus-requires : goal.compile-compile_minus-requires
-compile-compile_minus-requires t c = (
-  omega (arith, c.decreases, ap weight c.in-Minus.is, weigh.weight-Minus c.in-Minus.operand, ap weight c.get-in-Minus.ensures),
-  subst (λ x. IsTrue (fits false c.args.scope.now c.args.kind (e.Minus x))) (sym c.get-in-Minus.ensures) (subst (λ x. IsTrue (fits false c.args.scope.now c.args.kind x)) c.in-Minus.is c.requires),
-)
+compile-compile_minus-requires t c = omega (arith, c.decreases, ap weight c.in-Minus.is, weigh.weight-Minus c.in-Minus.operand, ap weight c.get-in-Minus.ensures)
 
 pub compile-compile_boxed-requires-in-Not : goal.compile-compile_boxed-requires-in-Not
-compile-compile_boxed-requires-in-Not t c = (
-  omega (arith, c.decreases, ap weight c.in-Not.is, weigh.weight-Not c.in-Not.operand, ap weight c.get-in-Not.ensures),
-  subst (λ x. IsTrue (fits false c.args.scope.now kinds.Bool x)) (sym c.get-in-Not.ensures) (fit.fits-Not c.args.scope.now c.args.kind c.in-Not.operand (subst (λ x. IsTrue (fits false c.args.scope.now c.args.kind x)) c.in-Not.is c.requires)),
-)
+compile-compile_boxed-requires-in-Not t c = omega (arith, c.decreases, ap weight c.in-Not.is, weigh.weight-Not c.in-Not.operand, ap weight c.get-in-Not.ensures)
 
 pub compile-compile_boxed-requires-in-Chain : goal.compile-compile_boxed-requires-in-Chain
-compile-compile_boxed-requires-in-Chain t c = (
-  omega (arith, c.decreases, ap weight c.in-Chain.is, weigh.weight-Chain c.in-Chain.first c.in-Chain.parts, ap weight c.get-in-Chain.ensures),
-  subst (λ x. IsTrue (fits false c.args.scope.now c.args.kind x)) (sym c.get-in-Chain.ensures) (fit.fits-Chain-first c.args.scope.now c.args.kind c.in-Chain.first c.in-Chain.parts (subst (λ x. IsTrue (fits false c.args.scope.now c.args.kind x)) c.in-Chain.is c.requires)),
-)
+compile-compile_boxed-requires-in-Chain t c = omega (arith, c.decreases, ap weight c.in-Chain.is, weigh.weight-Chain c.in-Chain.first c.in-Chain.parts, ap weight c.get-in-Chain.ensures)
 
 pub compile-compile_parts-requires : goal.compile-compile_parts-requires
-compile-compile_parts-requires t c = (
-  omega (arith, c.decreases, ap weight c.in-Chain.is, weigh.weight-Chain c.in-Chain.first c.in-Chain.parts, ap part_weights c.as_slice-in-Chain.ensures),
-  subst (λ ys. IsTrue (each_fits c.args.kind (map (λ (y : ChainPart). typing false c.args.scope.now y.operand) ys))) (sym c.as_slice-in-Chain.ensures)
-      (fit.fits-Chain-parts c.args.scope.now c.args.kind c.in-Chain.first c.in-Chain.parts (subst (λ x. IsTrue (fits false c.args.scope.now c.args.kind x)) c.in-Chain.is c.requires)),
-)
+compile-compile_parts-requires t c = omega (arith, c.decreases, ap weight c.in-Chain.is, weigh.weight-Chain c.in-Chain.first c.in-Chain.parts, ap part_weights c.as_slice-in-Chain.ensures)
 
 pub compile-compile_compare-requires : goal.compile-compile_compare-requires
-compile-compile_compare-requires t c = (
-  omega (arith, c.decreases, ap weight c.in-Compare.is, weigh.weight-Compare c.in-Compare.op c.in-Compare.left c.in-Compare.right, ap weight c.get-in-Compare.ensures, ap weight c.get-in-Compare-2.ensures),
-  (c.args.kind, subst IsTrue (λ i. fits false c.args.scope.now c.args.kind (e.Compare c.in-Compare.op (sym c.get-in-Compare.ensures i) (sym c.get-in-Compare-2.ensures i))) (subst (λ x. IsTrue (fits false c.args.scope.now c.args.kind x)) c.in-Compare.is c.requires)),
-)
+compile-compile_compare-requires t c = omega (arith, c.decreases, ap weight c.in-Compare.is, weigh.weight-Compare c.in-Compare.op c.in-Compare.left c.in-Compare.right, ap weight c.get-in-Compare.ensures, ap weight c.get-in-Compare-2.ensures)
 
 pub compile-compile_each-requires : goal.compile-compile_each-requires
-compile-compile_each-requires t c = (
-  omega (arith, c.decreases, ap weight c.in-All.is, weigh.weight-All c.in-All.exprs, ap weights c.as_slice-in-All.ensures),
-  subst (λ xs. IsTrue (each_fits kinds.Bool (map (typing false c.args.scope.now) xs))) (sym c.as_slice-in-All.ensures) (fit.fits-All c.args.scope.now c.args.kind c.in-All.exprs (subst (λ x. IsTrue (fits false c.args.scope.now c.args.kind x)) c.in-All.is c.requires)),
-)
+compile-compile_each-requires t c = omega (arith, c.decreases, ap weight c.in-All.is, weigh.weight-All c.in-All.exprs, ap weights c.as_slice-in-All.ensures)
 
 pub compile-compile_each-requires-in-Any : goal.compile-compile_each-requires-in-Any
-compile-compile_each-requires-in-Any t c = (
-  omega (arith, c.decreases, ap weight c.in-Any.is, weigh.weight-Any c.in-Any.exprs, ap weights c.as_slice-in-Any.ensures),
-  subst (λ xs. IsTrue (each_fits kinds.Bool (map (typing false c.args.scope.now) xs))) (sym c.as_slice-in-Any.ensures) (fit.fits-Any c.args.scope.now c.args.kind c.in-Any.exprs (subst (λ x. IsTrue (fits false c.args.scope.now c.args.kind x)) c.in-Any.is c.requires)),
-)
+compile-compile_each-requires-in-Any t c = omega (arith, c.decreases, ap weight c.in-Any.is, weigh.weight-Any c.in-Any.exprs, ap weights c.as_slice-in-Any.ensures)
 
 pub compile-compile_if-requires : goal.compile-compile_if-requires
-compile-compile_if-requires t c = (
-  omega (arith, c.decreases, ap weight c.in-If.is, weigh.weight-If c.in-If.test c.in-If.then c.in-If.other, ap weight c.get-in-If.ensures, ap weight c.get-in-If-2.ensures, ap weight c.get-in-If-3.ensures),
-  subst IsTrue (λ i. fits false c.args.scope.now c.args.kind (e.If (sym c.get-in-If.ensures i) (sym c.get-in-If-2.ensures i) (sym c.get-in-If-3.ensures i))) (subst (λ x. IsTrue (fits false c.args.scope.now c.args.kind x)) c.in-If.is c.requires),
-)
+compile-compile_if-requires t c = omega (arith, c.decreases, ap weight c.in-If.is, weigh.weight-If c.in-If.test c.in-If.then c.in-If.other, ap weight c.get-in-If.ensures, ap weight c.get-in-If-2.ensures, ap weight c.get-in-If-3.ensures)
 
 pub compile-returns-in-Number : goal.compile-returns-in-Number
 compile-returns-in-Number t c =
@@ -293,8 +214,14 @@ compile-returns-in-False t c =
 
 pub compile-returns-in-Throw : goal.compile-returns-in-Throw
 compile-returns-in-Throw t c =
-    subst (λ x. IsCode c.args.scope.now c.args.kind x (codes.Throw c.in-Throw.code)) (sym c.in-Throw.is)
-    (form.is-Throw c.args.scope.now c.args.kind c.in-Throw.code)
+    subst (λ x. IsCode c.args.scope.now c.args.kind x (codes.Throw c.throw_code.result)) (sym c.in-Throw.is)
+    (subst (λ n. IsCode c.args.scope.now c.args.kind (e.Throw c.in-Throw.code) (codes.Throw n)) (sym c.throw_code.ensures) (form.is-Throw c.args.scope.now c.args.kind c.in-Throw.code))
+
+pub compile-returns-in-Element : goal.compile-returns-in-Element
+compile-returns-in-Element t c =
+    subst (λ x. IsCode c.args.scope.now c.args.kind x c.no_code.result) (sym c.in-Element.is)
+    (subst (IsCode c.args.scope.now c.args.kind (e.Element c.in-Element.field-0 c.in-Element.field-1)) (sym c.no_code.ensures)
+    (form.is-Element c.args.scope.now c.args.kind c.in-Element.field-0 c.in-Element.field-1))
 
 pub compile-returns-in-Paren : goal.compile-returns-in-Paren
 compile-returns-in-Paren t c =

@@ -14,7 +14,7 @@ invariant_of-result c =
     let scope = c.self.inside.scope in
     let f = c.args.function in
     let code = c.in_ok-code.code in
-    let made : IsCompiled (functions ++ f ∷ []) (codes ++ code ∷ []) (with_signature scope f) = compiled_push functions codes scope f code c.self.invariant c.requires.few c.in_ok-code.ensures.code in
+    let made : IsCompiled (functions ++ f ∷ []) (codes ++ code ∷ []) (with_signature scope f) = compiled_push functions codes scope f code c.self.invariant c.requires c.in_ok-code.ensures.code in
     let entered : c.enter_function.new.scope ≡ with_signature scope f =
     c.in_ok-enter_function.ensures ∙ ap (λ s. with_signature s f) c.in_ok-code.ensures.same in
     subst (λ (x : List FunctionInfo × List Code × Scope). IsCompiled x.0 x.1 x.2) (λ i. (sym c.in-Ok.ensures.functions i, sym c.in-Ok.ensures.codes i, sym entered i)) made
