@@ -101,10 +101,10 @@ fn own_kind(scope: &Scope, expr: &Expr) -> Option<Kind>
         Expr::Convert(to, _) => Some(*to),
         Expr::Paren(inner) => own_kind(scope, inner.get()),
         Expr::Minus(operand) => minus_kind(scope, operand.get()),
-        Expr::Chain(first, parts) => own_kind(scope, first.get()).or(first_kind(
-            scope,
-            parts.as_slice(),
-        )),
+        Expr::Chain(first, parts) => {
+            let kind = own_kind(scope, first.get());
+            kind.or(first_kind(scope, parts.as_slice()))
+        }
         Expr::If(_, then, other) => own_kind(scope, then.get()).or(own_kind(scope, other.get())),
         Expr::True | Expr::False | Expr::Not(_) | Expr::Compare(..) | Expr::All(_) | Expr::Any(_) =>
             Some(Kind::Bool),

@@ -15,6 +15,7 @@ mod tests;
 
 pub use builder::build;
 pub use fault::BuildFault;
-pub use info::{ArrayInfo, FunctionInfo, StatementInfo};
+pub use info::{ArrayInfo, StatementInfo};
 pub use laws::{a_fault_or_none, one_fault};
 pub use program::Program;
+pub use pts_code::FunctionInfo;
