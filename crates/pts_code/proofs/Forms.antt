@@ -3,13 +3,10 @@ use Rattle.std.proofs.Common.{◌≡◌, ℕ, ◌≤◌, true, false, if◌then�
 use Rattle.std.specs.Prelude.{unwrap_or}
 use Rattle.std.specs.Option.{option_or}
 use Rattle.std.proofs.lemmas.Bool.{le-leb}
-use Rattle.std.proofs.lemmas.Option.{none-some}
-use Rattle.std.proofs.lemmas.List.{length-map}
 use Rattle.pts_types.specs.Arithmetic.{converted, negated}
 use Rattle.pts_types.specs.declared.value.Kind.{Kind}
 use Rattle.pts_types.specs.declared.value.Kind.TheVariants as kinds
 use Rattle.pts_types.specs.declared.operation.ScalarOp.{ScalarOp}
-use Rattle.pts_types.specs.declared.value.Value.{Value}
 use Rattle.pts_types.specs.declared.value.Value.TheVariants as values
 use Rattle.pts_tree.specs.declared.expr.Expr.{Expr}
 use Rattle.pts_tree.specs.declared.expr.Expr.TheVariants as e
@@ -20,10 +17,10 @@ use Rattle.pts_rules.specs.Kinds.{typing}
 use Rattle.pts_code.specs.declared.code.Code.{Code}
 use Rattle.pts_code.specs.declared.code.Code.TheVariants as c
 use Rattle.pts_code.specs.declared.code.Step.{Step}
-use Rattle.pts_code.specs.Codes.{gives, local, call_of}
-use Rattle.pts_code.specs.Compiling.{Means, IsCode, AreArguments, AreTruths, AreSteps, scope_of_names, Holds, part_at, step_at}
+use Rattle.pts_code.specs.Codes.{gives, call_of}
+use Rattle.pts_code.specs.Compiling.{IsCode, AreArguments, AreTruths, AreSteps, scope_of_names, part_at, step_at}
 use Rattle.pts_code.specs.Outcomes.{Outcome, Gives, and_then, never, inverted, in_order, from_left, all_of, any_of, choice}
-use Rattle.pts_code.specs.Values.{Environment, Valuation, Part, valuation, number_value, throw_code, name_valuation, call_valuation, minus_valuation, bound_to, at_kinds, truths, Function}
+use Rattle.pts_code.specs.Values.{Environment, Valuation, Part, valuation, number_value, throw_code, call_valuation, minus_valuation, bound_to, at_kinds}
 use Rattle.pts_code.proofs.Given.{gives-Value, gives-Local, gives-Throw, gives-Call, gives-Convert, gives-Negate, gives-Not, gives-Chain, gives-All, gives-Any, gives-If}
 use Rattle.pts_code.proofs.Lookups.{IsLost, no_local, no_function, local_at, Found, function_found, params_known}
 use Rattle.pts_code.proofs.SameKinds.{own_same, literal_same}

@@ -1,5 +1,5 @@
 -- Codes of lists, one element on.
-use Rattle.std.proofs.Common.{◌≡◌, ◌⊎◌, inl, inr, ℕ, zero, suc, ◌+◌, ◌-◌, ◌<◌, ◌≤◌, min, List, [], ◌∷◌, ◌++◌, length, get_or, take, map, refl, sym, ap, ◌∙◌, subst, arith}
+use Rattle.std.proofs.Common.{◌≡◌, ◌⊎◌, inl, inr, ℕ, zero, suc, ◌+◌, ◌<◌, ◌≤◌, min, List, [], ◌∷◌, ◌++◌, length, get_or, take, map, refl, sym, ap, ◌∙◌, subst, arith}
 use Rattle.std.proofs.lemmas.Bool.{cases_lt}
 use Rattle.std.proofs.Math.Nat.{min-eq_left, min-eq_right}
 use Rattle.std.proofs.lemmas.List.{take_more, take_all, map-append, length-take-le, length-map}
@@ -11,9 +11,8 @@ use Rattle.pts_rules.specs.Known.{Scope}
 use Rattle.pts_code.specs.declared.code.Code.{Code}
 use Rattle.pts_code.specs.declared.code.Step.{Step}
 use Rattle.pts_code.specs.Codes.{gives}
-use Rattle.pts_code.specs.Compiling.{Means, IsCode, AreArguments, AreTruths, AreSteps, part_at, step_at}
-use Rattle.pts_code.specs.Outcomes.{Outcome}
-use Rattle.pts_code.specs.Values.{Environment, Valuation, valuation, at_kinds, truths}
+use Rattle.pts_code.specs.Compiling.{IsCode, AreArguments, AreTruths, AreSteps, part_at, step_at}
+use Rattle.pts_code.specs.Values.{Valuation, valuation, at_kinds, truths}
 
 -- a list and one element more
 abbrev more : {A : Type 0} → List A → A → List A

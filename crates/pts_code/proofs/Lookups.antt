@@ -1,5 +1,5 @@
 -- What the names of an environment's scope stand for.
-use Rattle.std.proofs.Common.{◌≡◌, ◌⊎◌, inl, inr, ℕ, ◌+◌, ◌≤◌, Bool, true, false, cond, if◌then◌else◌, fold, Option, Some, None, Ok, List, [], ◌∷◌, length, slice_get, option_map, option_and_then, count_by, bytes_eq, refl, sym, ap, ◌∙◌}
+use Rattle.std.proofs.Common.{◌≡◌, ◌⊎◌, inl, inr, ℕ, ◌+◌, ◌≤◌, Bool, true, false, cond, if◌then◌else◌, fold, Option, Some, None, List, [], ◌∷◌, length, slice_get, option_map, option_and_then, count_by, bytes_eq, refl, sym, ap, ◌∙◌}
 use Rattle.std.specs.Prelude.{unwrap_or}
 use Rattle.std.proofs.lemmas.Option.{none-some}
 use Rattle.pts_types.specs.declared.value.Kind.{Kind}

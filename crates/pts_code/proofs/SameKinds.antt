@@ -1,8 +1,6 @@
 -- The rules and the values say the same of which expressions are literal numbers and which kinds expressions have.
-use Rattle.std.proofs.Common.{◌≡◌, ℕ, false, Option, Some, None, List, [], ◌∷◌, map, option_map, option_and_then, ℤ, refl, sym, ap, ◌∙◌, subst}
+use Rattle.std.proofs.Common.{◌≡◌, false, Option, Some, None, List, [], ◌∷◌, map, option_map, option_and_then, ℤ, refl, sym, ap, ◌∙◌, subst}
 use Rattle.std.specs.Option.{option_or}
-use Rattle.pts_types.specs.declared.value.Kind.{Kind}
-use Rattle.pts_types.specs.declared.operation.ScalarOp.{ScalarOp}
 use Rattle.pts_tree.specs.declared.expr.Expr.{Expr, roll-Expr}
 use Rattle.pts_tree.specs.declared.expr.Expr.TheOpen.{Expr-F}
 use Rattle.pts_tree.specs.declared.expr.Expr.TheVariants as e

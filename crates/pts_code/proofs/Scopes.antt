@@ -1,12 +1,11 @@
 -- Scopes that grow by the names of functions and parameters, and the environments that they are of.
-use Rattle.std.proofs.Common.{◌≡◌, IsTrue, ℕ, zero, suc, ◌+◌, ◌-◌, ◌<◌, ◌≤◌, Bool, true, false, ◌&&◌, Some, None, Option, Ok, option_map, fold, List, [], ◌∷◌, ◌++◌, length, map, take, drop, slice_get, count_by, cond, refl, sym, ap, ◌∙◌, subst, arith}
+use Rattle.std.proofs.Common.{◌≡◌, IsTrue, ℕ, zero, suc, ◌+◌, ◌-◌, ◌≤◌, Bool, true, ◌&&◌, Some, None, Option, Ok, fold, List, [], ◌∷◌, ◌++◌, length, take, drop, slice_get, count_by, cond, refl, sym, ap, ◌∙◌, arith}
 use Rattle.std.specs.List.{list_all}
-use Rattle.std.proofs.lemmas.Bool.{leb-true, le-leb, false≢true}
+use Rattle.std.proofs.lemmas.Bool.{leb-true, le-leb}
 use Rattle.std.proofs.lemmas.Option.{none-some}
 use Rattle.std.proofs.lemmas.List.{length_push, append_assoc, drop-drop, length-map}
 use Rattle.std.proofs.lemmas.List.Sums.{fold_push}
 use Rattle.pts_types.specs.declared.value.Value.{Value}
-use Rattle.pts_types.specs.declared.value.Value.TheVariants as values
 use Rattle.pts_tree.specs.declared.script.Param.{Param}
 use Rattle.pts_rules.specs.Known.{Scope}
 use Rattle.pts_rules.specs.Parts.{Name}
@@ -17,7 +16,7 @@ use Rattle.pts_code.specs.Codes.{gives, local, functions_of, with_code}
 use Rattle.pts_code.specs.Compiling.{Holds, IsCode, IsCompiled, has_few, is_local, is_function, locals, functions, scope_of_names}
 use Rattle.pts_code.specs.Functions.{first_value, with_params, function_value, with_function, environment_of, outcome_of, gives_after, gives_of, with_signature, scope_of, body_scope}
 use Rattle.pts_code.specs.Outcomes.{Gives, never}
-use Rattle.pts_code.specs.Values.{Bound, Local, Function, FunctionValue, Environment, value_of}
+use Rattle.pts_code.specs.Values.{Bound, Local, Function, Environment}
 use Rattle.pts_code.proofs.Calls.{functions_length}
 use Rattle.pts_code.proofs.Truths.{and_left, and_right}
 use Rattle.pts_code.proofs.Numbering.{get_push, get_kept}

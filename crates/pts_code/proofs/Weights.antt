@@ -1,14 +1,12 @@
 -- How far an evaluation may go: through the codes that it may call, and through its own.
 use Rattle.std.proofs.Common.{◌≡◌, ℕ, zero, suc, ◌+◌, ◌<◌, List, [], ◌∷◌, map, length, get_or, take, ap, arith}
-use Rattle.std.specs.Prelude.{sum}
 use Rattle.pts_types.specs.declared.value.Kind.{Kind}
-use Rattle.pts_types.specs.declared.value.Value.{Value}
 use Rattle.pts_code.specs.declared.code.Code.{Code}
 use Rattle.pts_code.specs.declared.code.Code.TheOpen.{Code-F}
 use Rattle.pts_code.specs.declared.code.Code.TheVariants as c
 use Rattle.pts_code.specs.declared.code.Code.TheFolds.{fold-Code}
 use Rattle.pts_code.specs.declared.code.Step.{Step}
-use Rattle.pts_code.proofs.CodeFolds.{at-Value, at-Local, at-Throw, at-Call, at-Convert, at-Negate, at-Not, at-steps, at-All, at-Any, at-If}
+use Rattle.pts_code.proofs.CodeFolds.{at-Call, at-Convert, at-Negate, at-Not, at-steps, at-All, at-Any, at-If}
 
 -- one more for each
 abbrev pub total : List ℕ → ℕ

@@ -1,5 +1,5 @@
 -- What code gives.
-use Rattle.std.specs.Prelude.{ℕ, nat_le, if◌then◌else◌, Option, Some, None, Ok, Err, List, [], ◌∷◌, ◌++◌, length, fold, map, slice_get}
+use Rattle.std.specs.Prelude.{ℕ, nat_le, if◌then◌else◌, Option, Some, None, Ok, Err, List, [], ◌∷◌, ◌++◌, length, fold, slice_get}
 use Rattle.pts_types.specs.Arithmetic.{converted, negated}
 use Rattle.pts_types.specs.declared.value.Thrown.TheVariants as throws
 use Rattle.pts_types.specs.declared.value.Value.{Value}

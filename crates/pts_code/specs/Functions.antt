@@ -1,5 +1,5 @@
 -- What functions give, each of which calls earlier ones only.
-use Rattle.std.specs.Prelude.{ℕ, Option, Some, None, List, [], ◌∷◌, fold, map, take, drop, slice_get}
+use Rattle.std.specs.Prelude.{ℕ, Some, None, List, [], ◌∷◌, fold, map, take, drop, slice_get}
 use Rattle.pts_types.specs.declared.value.Kind.{Kind}
 use Rattle.pts_types.specs.declared.value.Value.{Value}
 use Rattle.pts_types.specs.declared.value.Value.TheVariants as values
@@ -8,7 +8,7 @@ use Rattle.pts_rules.specs.declared.meaning.Meaning.TheVariants as meanings
 use Rattle.pts_rules.specs.Known.{Scope}
 use Rattle.pts_rules.specs.Scopes.{param_entry}
 use Rattle.pts_code.specs.declared.function.FunctionInfo.{FunctionInfo}
-use Rattle.pts_code.specs.Outcomes.{Outcome, Gives, never}
+use Rattle.pts_code.specs.Outcomes.{Gives, never}
 use Rattle.pts_code.specs.Values.{FunctionValue, Local, Function, Environment, value_of}
 
 -- ---- what functions give

@@ -1,5 +1,5 @@
 -- What an evaluation gives: a value, or what was thrown first.
-use Rattle.std.specs.Prelude.{Bool, not, true, false, if◌then◌else◌, Result, Ok, Err, List, [], ◌∷◌, fold, ℤ, pos, ◌≡◌}
+use Rattle.std.specs.Prelude.{Bool, not, true, false, if◌then◌else◌, Result, Ok, Err, List, [], ◌∷◌, fold}
 use Rattle.pts_types.specs.Arithmetic.{value_under}
 use Rattle.pts_types.specs.declared.operation.ScalarOp.{ScalarOp}
 use Rattle.pts_types.specs.declared.value.Thrown.{Thrown}

@@ -1,6 +1,6 @@
 -- The value of an expression.
 use Rattle.std.specs.Option.{option_or}
-use Rattle.std.specs.Prelude.{ℕ, Bool, true, false, min, if◌then◌else◌, unwrap_or, Option, Some, None, Ok, Err, List, [], ◌∷◌, map, ℤ, pos, neg_ℤ}
+use Rattle.std.specs.Prelude.{ℕ, true, false, min, if◌then◌else◌, unwrap_or, Option, Some, None, Ok, Err, List, [], ◌∷◌, map, ℤ, pos, neg_ℤ}
 use Rattle.std.specs.Ordering.{int_eq}
 use Rattle.std.specs.Str.{bytes_eq}
 use Rattle.pts_types.specs.Arithmetic.{converted, negated}
@@ -11,7 +11,7 @@ use Rattle.pts_types.specs.declared.value.Thrown.TheVariants as throws
 use Rattle.pts_types.specs.declared.value.Value.{Value}
 use Rattle.pts_types.specs.declared.value.Value.TheVariants as values
 use Rattle.pts_tree.specs.declared.expr.Expr.{Expr}
-use Rattle.pts_tree.specs.declared.expr.Expr.TheOpen.{Expr-F, ChainPart-F}
+use Rattle.pts_tree.specs.declared.expr.Expr.TheOpen.{Expr-F}
 use Rattle.pts_tree.specs.declared.expr.Expr.TheFolds.{fold-Expr}
 use Rattle.pts_rules.specs.Known.{holds, natural}
 use Rattle.pts_rules.specs.Parts.{Name}

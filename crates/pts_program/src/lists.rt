@@ -118,6 +118,7 @@ fn add_array(
     Ok(())
 }
 
+#[tactic(auto, using(crate::proofs::Declared::pushable))]
 fn push_function(
     alloc: Global,
     scope: &Scope,

@@ -1,4 +1,4 @@
-use Rattle.std.proofs.Common.{◌≡◌, inl, inr, ℕ, ◌+◌, ◌<◌, ◌≤◌, true, false, map, length, get_or, take, Some, None, ◌∷◌, [], ◌++◌, ℤ, neg_ℤ, refl, sym, ap, ◌∙◌, subst, arith}
+use Rattle.std.proofs.Common.{◌≡◌, inl, inr, ◌+◌, ◌<◌, true, false, length, take, Some, ◌∷◌, [], ◌++◌, neg_ℤ, sym, ap, ◌∙◌, subst, arith}
 use Rattle.std.proofs.Math.Nat.{min-le_left, min-le_right}
 use Rattle.std.specs.Prelude.{unwrap_or}
 use Rattle.std.specs.Option.{option_or, option_copied}
@@ -7,10 +7,8 @@ use Rattle.pts_types.specs.declared.value.Kind.TheVariants as kinds
 use Rattle.pts_types.specs.declared.value.Value.TheVariants as values
 use Rattle.pts_tree.specs.declared.expr.Expr.{Expr}
 use Rattle.pts_tree.specs.declared.expr.Expr.TheVariants as e
-use Rattle.pts_tree.specs.declared.expr.ChainPart.{ChainPart}
 use Rattle.pts_rules.specs.Known.{function_of}
 use Rattle.pts_rules.specs.Kinds.{typing}
-use Rattle.pts_code.specs.declared.code.Code.{Code}
 use Rattle.pts_code.specs.declared.code.Code.TheVariants as codes
 use Rattle.pts_code.specs.Compiling.{IsCode, AreArguments, AreTruths, AreSteps}
 use Rattle.pts_code.specs.Values.{number_value}

@@ -1,4 +1,4 @@
-use Rattle.std.proofs.Common.{◌≡◌, ◌+◌, false, map, drop, refl, sym, ap, ◌∙◌}
+use Rattle.std.proofs.Common.{◌+◌, false, map, drop, refl, sym, ap, ◌∙◌}
 use Rattle.std.specs.Option.{option_or}
 use Rattle.pts_tree.specs.declared.expr.ChainPart.{ChainPart}
 use Rattle.pts_rules.specs.Kinds.{Typing, typing, first_kind}

@@ -1,4 +1,4 @@
-use Rattle.std.proofs.Common.{sym, ap, ◌∙◌, subst}
+use Rattle.std.proofs.Common.{sym, ◌∙◌, subst}
 use Rattle.pts_tree.specs.declared.expr.Expr.TheVariants as e
 use Rattle.pts_code.specs.Compiling.{IsCode}
 use Rattle.pts_code.proofs.Forms.{is-unknown, is-Local}

@@ -1,8 +1,7 @@
-use Rattle.std.proofs.Common.{◌≡◌, ℕ, ◌+◌, ◌++◌, Ok, drop, map}
-use Rattle.std.specs.Prelude.{fold}
+use Rattle.std.proofs.Common.{◌≡◌, ◌+◌, ◌++◌, Ok, drop, map}
 use Rattle.arrayvec.specs.ArrayVec.{array_vec_len}
 use Rattle.pts_code.specs.Codes.{given, operation}
-use Rattle.pts_code.specs.Outcomes.{and_then, all_of, any_of, in_order, operate, from_left}
+use Rattle.pts_code.specs.Outcomes.{and_then, all_of, any_of, in_order, from_left}
 use Rattle.pts_code.proofs.Weights.{weight, weights, step_weights}
 use Rattle.pts_code.proofs.evaluation.+eval.Given as goal
 
