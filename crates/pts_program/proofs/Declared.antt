@@ -81,10 +81,12 @@ few_params scope x few =
     let few_of = (or_parts (nat_lt 8 (length x.params)) (nat_lt 65536 (size_of scope x.body)) few).0 in
     grind (arith, nat_tests, few_of)
 
-first_params : List FunctionInfo → List Param
+abbrev first_params : List FunctionInfo → List Param
 first_params [] = []
 first_params (f ∷ fs) = f.params
 
 -- and so has its copy
 pub pushable : (scope : Scope) (x : FunctionDecl) (info : FunctionInfo) → info ∷ [] ≡ functions_of scope (items.Function x) → large scope x ≡ false → length info.params ≤ 8
-pushable scope x info is few = let same = ap (λ (fs : List FunctionInfo). length (first_params fs)) is in omega (arith, same, few_params scope x few)
+pushable scope x info is few =
+    let same : length info.params ≡ length x.params = ap (λ (fs : List FunctionInfo). length (first_params fs)) is in
+    omega (arith, same, few_params scope x few)
