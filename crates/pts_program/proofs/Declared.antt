@@ -1,11 +1,15 @@
 -- One item more: what it leaves to those behind it.
-use Rattle.std.proofs.Common.{◌≡◌, ℕ, ◌+◌, ◌<◌, ◌≤◌, ◌^◌, Bool, true, false, IsTrue, List, [], ◌∷◌, ◌++◌, map, refl, sym, ap, ◌∙◌, subst, arith}
+use Rattle.std.proofs.Common.{◌≡◌, ℕ, ◌+◌, ◌<◌, ◌≤◌, ◌^◌, Bool, true, false, IsTrue, List, [], ◌∷◌, ◌++◌, length, map, refl, sym, ap, ◌∙◌, subst, arith}
 use Rattle.std.specs.Prelude.{count_by, nat_lt, if◌then◌else◌, cond, sum, ◌&&◌}
-use Rattle.std.proofs.lemmas.Bool.{and_parts}
+use Rattle.std.proofs.lemmas.Bool.{and_parts, or_parts}
 use Rattle.std.proofs.lemmas.Bool.Decides.{nat_tests}
 use Rattle.std.proofs.lemmas.List.Sums.{fold_push, sum_by-cons, sum_by_push}
+use Rattle.pts_tree.specs.declared.script.FunctionDecl.{FunctionDecl}
 use Rattle.pts_tree.specs.declared.script.Item.{Item}
 use Rattle.pts_tree.specs.declared.script.Item.TheVariants as items
+use Rattle.pts_tree.specs.declared.script.Param.{Param}
+use Rattle.pts_code.specs.declared.function.FunctionInfo.{FunctionInfo}
+use Rattle.pts_rules.specs.Counts.{size_of}
 use Rattle.pts_rules.specs.Known.{Entry, Scope, natural, number, sum_is, is_place, lies_in}
 use Rattle.pts_rules.specs.Limits.{cells, cells_of, is_statement}
 use Rattle.pts_rules.specs.Mistyped.{item_right, start_right}
@@ -13,6 +17,7 @@ use Rattle.pts_rules.specs.declared.meaning.Meaning.TheVariants.{Constant, Array
 use Rattle.pts_rules.specs.Scopes.{after, known, signature}
 use Rattle.pts_limits.specs.Rules.{large, too_deep, too_many}
 use Rattle.pts_program.specs.declared.standing.Standing.{Standing}
+use Rattle.pts_program.specs.Lists.{functions_of}
 use Rattle.pts_program.specs.Standings.{cells_in, is_large_function, IsAcceptable, IsDeclarable, IsStanding}
 
 few_function : (scope : Scope) (statements held : ℕ) (x : Item) → too_many scope statements held x ≡ false → is_large_function scope x ≡ false
@@ -67,3 +72,21 @@ standing_more before x old new s scope statements held = record {
 pub none_standing : (standing : Standing) → standing.scope ≡ [] → standing.statements ≡ 0 → standing.cells ≡ 0 → IsStanding [] standing
 unfolding known
 none_standing standing scope statements held = record { scope = scope; statements = statements; cells = held }
+
+-- ---- functions
+
+-- a function within the limits has at most eight parameters
+few_params : (scope : Scope) (x : FunctionDecl) → large scope x ≡ false → length x.params ≤ 8
+few_params scope x few =
+    let few_of = (or_parts (nat_lt 8 (length x.params)) (nat_lt 65536 (size_of scope x.body)) few).0 in
+    grind (arith, nat_tests, few_of)
+
+abbrev first_params : List FunctionInfo → List Param
+first_params [] = []
+first_params (f ∷ fs) = f.params
+
+-- and so has its copy
+pub pushable : (scope : Scope) (x : FunctionDecl) (info : FunctionInfo) → info ∷ [] ≡ functions_of scope (items.Function x) → large scope x ≡ false → length info.params ≤ 8
+pushable scope x info is few =
+    let same : length info.params ≡ length x.params = ap (λ (fs : List FunctionInfo). length (first_params fs)) is in
+    omega (arith, same, few_params scope x few)

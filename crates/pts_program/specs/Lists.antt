@@ -5,7 +5,7 @@ use Rattle.pts_tree.specs.declared.script.Item.TheVariants as items
 use Rattle.pts_tree.specs.declared.script.Script.{Script}
 use Rattle.pts_rules.specs.Known.{Scope, natural, number}
 use Rattle.pts_rules.specs.Scopes.{known}
-use Rattle.pts_program.specs.declared.info.FunctionInfo.{FunctionInfo}
+use Rattle.pts_code.specs.declared.function.FunctionInfo.{FunctionInfo}
 use Rattle.pts_resolve.specs.Resolved.{resolved_expr}
 use Rattle.pts_resolve.specs.Texts.{texts_of}
 use Rattle.pts_resolve.specs.Blocks.{blocks_of}

@@ -40,6 +40,7 @@ impl Builder {
     }
 
     // One item more, or the fault that it has.
+    #[tactic(auto, using(crate::proofs::Declared::declarable))]
     fn add(&mut self, alloc: Global, item: &Item) -> Result<(), BuildFault>
         requires { HasRoom self.old }
         ensures verdict { (before : List ItemTree) → IsStanding before self.old.standing → IsVerdict 0 11 before item.now (self.old.items + 1) result }

@@ -1,6 +1,6 @@
 //! What the lists of a program hold.
 
-use pts_tree::{Expr, Name, Param};
+use pts_tree::Name;
 use pts_types::{Kind, Value};
 use sqlite_items::Items;
 
@@ -18,13 +18,4 @@ pub enum StatementInfo {
     Call(u32),
     Block(u32),
     Print(u32),
-}
-
-/// A function. Each name in its body is a parameter or an earlier function; no constant is left.
-#[derive(Debug, Drop)]
-pub struct FunctionInfo {
-    pub name: Name,
-    pub params: Items<Param>,
-    pub kind: Kind,
-    pub body: Expr,
 }

@@ -15,8 +15,9 @@ mod tests;
 
 pub use builder::build;
 pub use fault::BuildFault;
-pub use info::{ArrayInfo, FunctionInfo, StatementInfo};
+pub use info::{ArrayInfo, StatementInfo};
 pub use laws::{a_fault_or_none, every_cell_has_its_kind, every_index_in_range, one_fault};
 pub use program::Program;
+pub use pts_code::FunctionInfo;
 pub use pts_points::{Branch, CallInfo, PointForm, PointInfo};
 pub use pts_resolve::{BlockInfo, CallText};

@@ -1,13 +1,16 @@
 //! The lists of a program, and what one item adds to them.
 
-ghost use Rattle.std.specs.Prelude.{◌≡◌, [], ◌∷◌, ◌++◌, map, IsTrue, IfOk, OnOk, option_to_list};
+ghost use Rattle.std.specs.Prelude.{◌≡◌, [], ◌∷◌, false, ◌++◌, map, IsTrue, IfOk, OnOk, option_to_list};
 ghost use Rattle.pts_tree.specs.declared.script.Item.TheVariants as items;
 ghost use Rattle.pts_points.specs.Points as points;
 ghost use Rattle.pts_rules.specs.Mistyped.{item_right};
+ghost use Rattle.pts_limits.specs.Rules.{large};
 ghost use Rattle.pts_program.specs.Lists as spec;
+ghost use Rattle.pts_program.specs.Standings.{is_large_function, IsDeclarable};
 
-use crate::info::{ArrayInfo, FunctionInfo, StatementInfo};
+use crate::info::{ArrayInfo, StatementInfo};
 use crate::lengths::length_of;
+use pts_code::{Codes, FunctionInfo};
 use pts_points::{CallInfo, PointInfo, add_points};
 use pts_resolve::{BlockInfo, CallText, add_blocks, add_texts, resolve_expr};
 use pts_rules::Scope;
@@ -16,12 +19,13 @@ use pts_tree::{ArrayDecl, FunctionDecl, Item, Name, Param};
 use pts_types::NoMemory;
 use sqlite_items::Items;
 use std::alloc::{AllocError, Global};
+use std::mem::replace;
 
-/// The lists of a program, each in text order.
-#[derive(Debug, Drop)]
+/// The lists of a program, each in text order. The functions are kept with what computes their values.
+#[derive(Drop)]
 pub struct Lists {
     pub arrays: Items<ArrayInfo>,
-    pub functions: Items<FunctionInfo>,
+    pub functions: Codes,
     pub statements: Items<StatementInfo>,
     pub calls: Items<CallInfo>,
     pub points: Items<PointInfo>,
@@ -38,7 +42,7 @@ impl Lists {
     {
         Lists {
             arrays: Items::new(alloc),
-            functions: Items::new(alloc),
+            functions: Codes::new(alloc),
             statements: Items::new(alloc),
             calls: Items::new(alloc),
             points: Items::new(alloc),
@@ -117,16 +121,33 @@ fn add_array(
     Ok(())
 }
 
+#[tactic(auto, using(crate::proofs::Declared::pushable))]
+fn push_function(
+    alloc: Global,
+    scope: &Scope,
+    function: &FunctionDecl,
+    functions: &mut Codes,
+) -> Result<(), NoMemory>
+    requires { large scope.now function.now ≡ false }
+    ensures { OnOk result (functions.new ≡ functions.old ++ spec.functions_of scope.now (items.Function function.now)) }
+{
+    let info = function_info(alloc, scope, function).map_err(|_| NoMemory)?;
+    let earlier = replace(functions, Codes::new(alloc));
+    *functions = earlier.push(alloc, info)?;
+    Ok(())
+}
+
 fn add_function(
     alloc: Global,
     scope: &Scope,
     item: &Item,
-    functions: &mut Items<FunctionInfo>,
-) -> Result<(), AllocError>
+    functions: &mut Codes,
+) -> Result<(), NoMemory>
+    requires { is_large_function scope.now item.now ≡ false }
     ensures { OnOk result (functions.new ≡ functions.old ++ spec.functions_of scope.now item.now) }
 {
     if let Item::Function(function) = item {
-        functions.push(function_info(alloc, scope, function)?)?;
+        push_function(alloc, scope, function, functions)?;
     }
     Ok(())
 }
@@ -168,14 +189,14 @@ fn add_statement(
 }
 
 fn add_names(alloc: Global, scope: &Scope, item: &Item, lists: &mut Lists) -> Result<(), NoMemory>
-    requires { IsTrue (item_right scope.now item.now) }
+    requires { IsDeclarable scope.now item.now }
     ensures { OnOk result (lists.new ≡ record lists.old {
       arrays = lists.old.arrays ++ spec.arrays_of scope.now item.now;
       functions = lists.old.functions ++ spec.functions_of scope.now item.now;
     }) }
 {
     add_array(alloc, scope, item, &mut lists.arrays)?;
-    add_function(alloc, scope, item, &mut lists.functions).map_err(|_| NoMemory)
+    add_function(alloc, scope, item, &mut lists.functions)
 }
 
 // The starts of calls of one item, before whose points this many stand.
@@ -188,7 +209,8 @@ fn add_starts(before: usize, calls: &[CallInfo], starts: &mut Items<u32>) -> Res
     Ok(())
 }
 
-/// Adds an item that is right to the lists of those before it, in the scope that these leave.
+/// Adds an item that is right, and small where it is a function, to the lists of those before it, in the scope that these
+/// leave.
 pub fn add_item(
     alloc: Global,
     scope: &Scope,
@@ -196,7 +218,7 @@ pub fn add_item(
     item: &Item,
     lists: &mut Lists,
 ) -> Result<(), NoMemory>
-    requires { IsTrue (item_right scope.now item.now) }
+    requires { IsDeclarable scope.now item.now }
     ensures { OnOk result (lists.new ≡ spec.with_item scope.now number lists.old item.now) }
 {
     let calls = small(lists.calls.len());

@@ -3,8 +3,9 @@
 ghost use Rattle.std.specs.Prelude.{◌≡◌, ◌<◌, Some, length, slice_get, take, drop};
 ghost use Rattle.pts_program.specs.Lists as spec;
 
-use crate::info::{ArrayInfo, FunctionInfo, StatementInfo};
+use crate::info::{ArrayInfo, StatementInfo};
 use crate::lists::Lists;
+use pts_code::{Codes, FunctionInfo};
 use pts_points::{CallInfo, PointInfo};
 use pts_resolve::{BlockInfo, CallText};
 use std::marker::Model;
@@ -52,7 +53,14 @@ impl Program {
     pub fn functions(&self) -> &[FunctionInfo]
         ensures { result.now ≡ self.now.functions }
     {
-        self.lists.functions.as_slice()
+        self.lists.functions.functions()
+    }
+
+    /// The functions with what computes their values.
+    pub fn codes(&self) -> &Codes
+        ensures { result.now ≡ self.now.functions }
+    {
+        &self.lists.functions
     }
 
     /// The statements of the script, without those inside of blocks.

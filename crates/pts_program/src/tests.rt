@@ -1,9 +1,12 @@
-//! Scripts that were built by hand, and their lists and faults.
+//! Scripts that were built by hand, and their lists and faults, and what their functions give.
 
 use crate::{BuildFault, Program, StatementInfo, build};
-use pts_tree::{ArrayDecl, Atom, Item, Name, Script, Start, Sum, Val};
-use pts_types::{Kind, Value};
-use sqlite_items::Items;
+use pts_tree::{
+    ArrayDecl, Atom, ChainPart, ConstDecl, Expr, FunctionDecl, Item, Name, Param, Script, Start,
+    Sum, Val,
+};
+use pts_types::{Kind, ScalarOp, Thrown, Value};
+use sqlite_items::{Boxed, Items};
 use std::alloc::{AllocError, Global};
 use std::test::Fail;
 
@@ -48,6 +51,53 @@ fn fault_of(alloc: Global, first: &str, second: &str) -> Option<BuildFault> {
     built(alloc, one, other).err()
 }
 
+// `const N = 5;`
+fn five(alloc: Global) -> Result<Item, AllocError> {
+    Ok(Item::Const(ConstDecl {
+        name: name(alloc, "N")?,
+        value: number(alloc, 5),
+    }))
+}
+
+fn one_param(alloc: Global) -> Result<Items<Param>, AllocError> {
+    let mut params = Items::new(alloc);
+    params.push(Param {
+        name: name(alloc, "x")?,
+        kind: Kind::I64,
+    })?;
+    Ok(params)
+}
+
+// `x / N`
+fn quotient(alloc: Global) -> Result<Expr, AllocError> {
+    let mut parts = Items::new(alloc);
+    parts.push(ChainPart {
+        op: ScalarOp::Divides,
+        operand: Expr::Name(name(alloc, "N")?),
+    })?;
+    Ok(Expr::Chain(Boxed::new(alloc, Expr::Name(name(alloc, "x")?))?, parts))
+}
+
+// `fn f(x: i64) -> i64 = x / N;`
+fn divider(alloc: Global) -> Result<Item, AllocError> {
+    Ok(Item::Function(FunctionDecl {
+        name: name(alloc, "f")?,
+        params: one_param(alloc)?,
+        kind: Kind::I64,
+        body: quotient(alloc)?,
+    }))
+}
+
+fn divided(alloc: Global, x: i64) -> Option<Result<Value, Thrown>> {
+    let program = built(alloc, five(alloc).ok()?, divider(alloc).ok()?).ok()?;
+    let codes = program.codes();
+    if codes.functions().is_empty() {
+        None
+    } else {
+        Some(codes.call(0, &[Value::I64(x)]))
+    }
+}
+
 #[test]
 fn builds_a_script(rt: HostRuntime) -> Result<(), Fail> {
     match printed(rt.alloc()) {
@@ -70,5 +120,11 @@ fn builds_a_script(rt: HostRuntime) -> Result<(), Fail> {
 #[test]
 fn names_the_fault(rt: HostRuntime) -> Result<(), Fail> {
     assert_eq!(rt; fault_of(rt.alloc(), "a", "a"), Some(BuildFault::Twice(2)));
+    Ok(())
+}
+
+#[test]
+fn functions_know_the_constants_before_them(rt: HostRuntime) -> Result<(), Fail> {
+    assert_eq!(rt; divided(rt.alloc(), -17), Some(Ok(Value::I64(-3))));
     Ok(())
 }

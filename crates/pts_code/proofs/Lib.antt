@@ -1,0 +1,16 @@
+pub mod Calls
+pub mod Chains
+pub mod CodeFolds
+pub mod ExprWeights
+pub mod Forms
+pub mod Given
+pub mod Lists
+pub mod Lookups
+pub mod Numbering
+pub mod SameKinds
+pub mod Scopes
+pub mod Small
+pub mod Steps
+pub mod Truths
+pub mod Valuations
+pub mod Weights

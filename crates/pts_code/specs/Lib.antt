@@ -1,0 +1,5 @@
+pub mod Codes
+pub mod Compiling
+pub mod Functions
+pub mod Outcomes
+pub mod Values

@@ -1,0 +1,161 @@
+//! Functions in order, ready to be called.
+
+ghost use Rattle.std.specs.Prelude.{◌≡◌, ◌<◌, ◌≤◌, [], ◌∷◌, ◌++◌, IfOk, OnOk, length, map};
+ghost use Rattle.pts_code.specs.Compiling.{IsCode, IsCompiled};
+ghost use Rattle.pts_code.specs.Functions.{body_scope, kinds_of, outcome_of, with_signature};
+
+use crate::code::Code;
+use crate::compile::compile;
+use crate::evaluation::{Frame, eval};
+use crate::function::FunctionInfo;
+use pts_rules::{Meaning, Scope, Signature};
+use pts_tree::Param;
+use pts_types::{Kind, NoMemory, Thrown, Value};
+use sqlite_items::Items;
+use std::alloc::{AllocError, Global};
+use std::marker::Model;
+
+/// Functions, each of which calls earlier ones only.
+#[derive(Drop)]
+pub struct Codes {
+    functions: Vec<FunctionInfo>,
+    codes: Vec<Code>,
+    scope: Scope,
+}
+
+impl Model for Codes {
+    ghost use Rattle.std.specs.Prelude.{List};
+    ghost use Rattle.pts_code.specs.Compiling.{IsCompiled};
+    ghost use Rattle.std.specs.Coded.{coded_list};
+    ghost use Rattle.pts_code.specs.declared.function.FunctionInfo.{FunctionInfo};
+    ghost use Rattle.pts_code.specs.contracts.function.FunctionInfo.{the_row};
+
+    ghost Value = { List FunctionInfo };
+
+    ghost coded = { coded_list the_row.coded };
+
+    ghost view = { λ c. c.functions.items };
+
+    ghost invariant = { λ c. IsCompiled c.functions.items c.codes.items c.scope };
+}
+
+pub(crate) fn enter_params(
+    scope: &mut Scope,
+    alloc: Global,
+    params: &[Param],
+) -> Result<(), NoMemory>
+    ensures { OnOk result (scope.new ≡ body_scope scope.old params.now) }
+{
+    for param in params {
+        scope.enter(alloc, &param.name, Meaning::Value(param.kind))?;
+    }
+    Ok(())
+}
+
+fn param_kinds(alloc: Global, params: &[Param]) -> Result<Items<Kind>, AllocError>
+    ensures { IfOk result (λ kinds. kinds ≡ kinds_of params.now) }
+{
+    let mut kinds = Items::new(alloc);
+    for param in params {
+        kinds.push(param.kind)?;
+    }
+    Ok(kinds)
+}
+
+pub(crate) fn enter_function(
+    scope: &mut Scope,
+    alloc: Global,
+    function: &FunctionInfo,
+) -> Result<(), NoMemory>
+    ensures { OnOk result (scope.new ≡ with_signature scope.old function.now) }
+{
+    let params = param_kinds(alloc, function.params.as_slice()).map_err(|_| NoMemory)?;
+    let signature = Signature {
+        params,
+        kind: function.kind,
+        depth: 0,
+        size: 0,
+    };
+    scope.enter(alloc, &function.name, Meaning::Function(signature))
+}
+
+fn compile_body(scope: &mut Scope, alloc: Global, function: &FunctionInfo) -> Result<Code, NoMemory>
+    ensures code { IfOk result (λ code. IsCode (body_scope scope.old function.now.params) function.now.kind function.now.body code) }
+    ensures same { OnOk result (scope.new ≡ scope.old) }
+{
+    let len = scope.len();
+    enter_params(scope, alloc, function.params.as_slice())?;
+    let code = compile(alloc, scope, function.kind, &function.body).map_err(|_| NoMemory)?;
+    scope.leave(len);
+    Ok(code)
+}
+
+fn push_both(
+    functions: &mut Vec<FunctionInfo>,
+    codes: &mut Vec<Code>,
+    function: FunctionInfo,
+    code: Code,
+) -> Result<(), AllocError>
+    ensures functions { OnOk result (functions.new.items ≡ functions.old.items ++ function ∷ []) }
+    ensures codes { OnOk result (codes.new.items ≡ codes.old.items ++ code ∷ []) }
+{
+    functions.push(function)?;
+    codes.push(code)?;
+    Ok(())
+}
+
+impl Codes {
+    /// No functions.
+    pub fn new(alloc: Global) -> Codes
+        ensures { result ≡ [] }
+    {
+        Codes {
+            functions: Vec::new(alloc),
+            codes: Vec::new(alloc),
+            scope: Scope::new(alloc),
+        }
+    }
+
+    /// The functions in order.
+    pub fn functions(&self) -> &[FunctionInfo]
+        ensures { result.now ≡ self.now }
+    {
+        self.functions.as_slice()
+    }
+
+    /// One function more, behind those that it may call. It has at most eight parameters.
+    pub fn push(self, alloc: Global, function: FunctionInfo) -> Result<Codes, NoMemory>
+        requires { length function.params ≤ 8 }
+        ensures { IfOk result (λ codes. codes ≡ self ++ function ∷ []) }
+    {
+        let Codes {
+            mut functions,
+            mut codes,
+            mut scope,
+        } = self;
+        let code = compile_body(&mut scope, alloc, &function)?;
+        enter_function(&mut scope, alloc, &function)?;
+        let Ok(()) = push_both(&mut functions, &mut codes, function, code) else {
+            return Err(NoMemory);
+        };
+        Ok(Codes {
+            functions,
+            codes,
+            scope,
+        })
+    }
+
+    /// What the function of a number, from 0, gives for these arguments: its value, or what it throws first. It takes no
+    /// memory.
+    pub fn call(&self, function: usize, arguments: &[Value]) -> Result<Value, Thrown>
+        requires { function < length self.now }
+        ensures { result ≡ outcome_of self.now function arguments.now }
+    {
+        let codes = self.codes.as_slice();
+        let frame = Frame {
+            codes: &codes[..function],
+            values: arguments,
+        };
+        eval(&frame, &codes[function])
+    }
+}
