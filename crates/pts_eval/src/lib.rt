@@ -1,12 +1,14 @@
 //! The cells of a running program, and what its statements do with them.
 #![tactic(auto)]
 
+mod functions;
 mod store;
 #[cfg(test)]
 mod tests;
 mod unbuilt;
 mod work;
 
+pub use functions::eval_fn;
 pub use store::Store;
 pub use unbuilt::later;
 pub use work::{Work, work_of};
