@@ -333,8 +333,24 @@ run_command words word found made some is run makes made_is command =
       λ e. let same : Some p ≡ Some pool = cc in run_leads rest pool ((f pool).0 same),
       λ h. ap (option_map commands.Run) ((f pool).1 (run_is (codes "run") rest pool h).1),
     )
+    by_command rest None f commands.Check = (λ e. absurd (cc), λ e. absurd (cc))
+    by_command rest (Some p) f commands.Check = (λ e. absurd (cc), λ e. absurd (cc))
     by_command rest None f commands.Print = (λ e. absurd (cc), λ e. absurd (cc))
     by_command rest (Some p) f commands.Print = (λ e. absurd (cc), λ e. absurd (cc))
+
+pub check_command : {Z : Type 0} (words : List (String Z)) (word : String Z) → length words ≡ 1 → word ≡ get_or words 0 word → string_bytes word ≡ codes "check"
+    → (command : Command) → (Some commands.Check ≡ Some command) ↔ IsCommand (map string_bytes words) command
+check_command [] word one is check command = absurd (omega arith)
+check_command (x ∷ y ∷ ws) word one is check command = absurd (omega arith)
+check_command (x ∷ []) word one is check (commands.Run pool) =
+    let x_is : string_bytes x ≡ codes "check" = ap string_bytes (sym is) ∙ check in
+    (λ e. absurd (cc), λ h. let run = (run_is (string_bytes x) [] pool h).0 in absurd (cc))
+check_command (x ∷ []) word one is check commands.Print =
+    let x_is : string_bytes x ≡ codes "check" = ap string_bytes (sym is) ∙ check in
+    (λ e. absurd (cc), λ h. let e : 99 ≡ 112 = ap (λ (text : List ℕ). get_or text 0 0) (sym x_is ∙ ap (λ (ws : List (List ℕ)). get_or ws 0 []) h) in absurd (omega (arith, e)))
+check_command (x ∷ []) word one is check commands.Check =
+    let x_is : string_bytes x ≡ codes "check" = ap string_bytes (sym is) ∙ check in
+    (λ e. ap (λ t. t ∷ []) x_is, λ h. refl)
 
 pub print_command : {Z : Type 0} (words : List (String Z)) (word : String Z) → length words ≡ 1 → word ≡ get_or words 0 word → string_bytes word ≡ codes "print"
     → (command : Command) → (Some commands.Print ≡ Some command) ↔ IsCommand (map string_bytes words) command
@@ -343,6 +359,9 @@ print_command (x ∷ y ∷ ws) word one is print command = absurd (omega arith)
 print_command (x ∷ []) word one is print (commands.Run pool) =
     let x_is : string_bytes x ≡ codes "print" = ap string_bytes (sym is) ∙ print in
     (λ e. absurd (cc), λ h. let run = (run_is (string_bytes x) [] pool h).0 in absurd (cc))
+print_command (x ∷ []) word one is print commands.Check =
+    let x_is : string_bytes x ≡ codes "print" = ap string_bytes (sym is) ∙ print in
+    (λ e. absurd (cc), λ h. let e : 112 ≡ 99 = ap (λ (text : List ℕ). get_or text 0 0) (sym x_is ∙ ap (λ (ws : List (List ℕ)). get_or ws 0 []) h) in absurd (omega (arith, e)))
 print_command (x ∷ []) word one is print commands.Print =
     let x_is : string_bytes x ≡ codes "print" = ap string_bytes (sym is) ∙ print in
     (λ e. ap (λ t. t ∷ []) x_is, λ h. refl)

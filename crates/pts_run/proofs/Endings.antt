@@ -6,8 +6,9 @@ use Rattle.std.proofs.KnownBytes.{Appends-nil}
 use Rattle.pts_tree.specs.declared.script.Script.{Script}
 use Rattle.pts_print.specs.Canonical.{canonical}
 use Rattle.pts_boards.specs.declared.pool.Pool.{Pool}
-use Rattle.pts_run.specs.declared.first.First.{First}
+use Rattle.pts_program.specs.declared.lists.Lists.{Lists}
 use Rattle.pts_run.specs.declared.refusal.Refusal.{Refusal}
+use Rattle.pts_run.specs.declared.refusal.Refusal.TheVariants as refusals
 use Rattle.pts_run.specs.declared.refusal.Refusal.TheVariants.{TooLong}
 use Rattle.pts_run.specs.declared.run.WriteEnd.{WriteEnd}
 use Rattle.pts_run.specs.declared.run.WriteEnd.TheVariants as ends
@@ -15,9 +16,9 @@ use Rattle.pts_run.specs.declared.status.Status.{Status}
 use Rattle.pts_run.specs.declared.status.Status.TheVariants as status
 use Rattle.pts_run.specs.declared.words.Command.{Command}
 use Rattle.pts_run.specs.declared.words.Command.TheVariants as commands
-use Rattle.pts_run.specs.First.{IsFirst}
-use Rattle.pts_run.specs.Output.{Reads, Accepts, Refuses, Takes, IsWholeText, IsAsScriptSays, Wrote, WrotePart, script_limit}
-use Rattle.pts_run.specs.Text.{refusal_line}
+use Rattle.pts_run.specs.Acceptance.{IsAccepted, Rejects}
+use Rattle.pts_run.specs.Output.{Reads, Accepts, Refuses, RejectsFor, Takes, IsWholeText, IsAsScriptSays, Wrote, WrotePart, script_limit}
+use Rattle.pts_run.specs.Text.{accepted_line, refusal_line}
 use Rattle.pts_run.specs.Writing.{IsStatusOf, WritesRun, WritesRunPart, Leaves, Ends}
 
 -- ---- known bytes
@@ -42,13 +43,22 @@ on_ok : {T E P Q : Type 0} (r : Result T E) → (P → Q) → OnOk r P → OnOk 
 on_ok (Ok x) f h = f h
 on_ok (Err e) f h = tt
 
-pub run_ends : {T : Type 0} (pool : Pool) (bytes : List ℕ) (script : Script) (made : First) (written : Result T WriteEnd) (answer : Status) (old new : Option (List ℕ)) → Reads bytes script → IsFirst script made
+pub run_ends : {T : Type 0} (pool : Pool) (bytes : List ℕ) (script : Script) (made : Lists) (written : Result T WriteEnd) (answer : Status) (old new : Option (List ℕ)) → Reads bytes script → IsAccepted script made
     → OnOk written (WritesRun made (length made.statements) old new) → WritesRunPart made old new → IsStatusOf status.Done written answer → Ends (commands.Run pool) bytes answer old new
-run_ends pool bytes script made written answer old new reads first whole part is =
-    let accepts : Accepts bytes made = record { script = script; reads = reads; whole = first } in
+run_ends pool bytes script made written answer old new reads accepted whole part is =
+    let accepts : Accepts bytes made = record { script = script; reads = reads; accepted = accepted } in
     record {
       leaves = leaves_by (commands.Run pool) bytes status.Done written answer old new is (on_ok written (λ ran. (ran.text, (made, accepts, ran.is_text), ran.appends)) whole);
       part = (part.text, inr (inl (part.whole, (made, part.count, accepts, part.is_text), part.starts)), part.appends);
+    }
+
+pub check_ends : {T : Type 0} (bytes : List ℕ) (script : Script) (made : Lists) (written : Result T WriteEnd) (answer : Status) (text : List ℕ) (old new : Option (List ℕ)) → Reads bytes script → IsAccepted script made
+    → OnOk written (Appends old new accepted_line) → StartsWith accepted_line text → Appends old new text → IsStatusOf status.Done written answer → Ends commands.Check bytes answer old new
+check_ends bytes script made written answer text old new reads accepted whole starts part is =
+    let accepts : Accepts bytes made = record { script = script; reads = reads; accepted = accepted } in
+    record {
+      leaves = leaves_by commands.Check bytes status.Done written answer old new is (on_ok written (λ h. (accepted_line, (made, accepts, refl), h)) whole);
+      part = (text, inr (inl (accepted_line, (made, accepts, refl), starts)), part);
     }
 
 pub print_ends : {T : Type 0} (bytes : List ℕ) (script : Script) (written : Result T WriteEnd) (answer : Status) (text : List ℕ) (old new : Option (List ℕ)) → Reads bytes script
@@ -64,6 +74,26 @@ refusal_ends command bytes reason written answer text old new refuses whole star
   leaves = leaves_by command bytes status.Refused written answer old new is (on_ok written (λ h. (refusal_line reason, (reason, refuses, refl), h)) whole);
   part = (text, inr (inr (reason, refuses, starts)), part);
 }
+
+-- what a script is not run for, the command refuses it for
+pub refused : (command : Command) (bytes : List ℕ) (script : Script) (reason : Refusal) → RejectsFor command bytes reason → Rejects script reason → Refuses command bytes reason
+refused command bytes script refusals.TooLong h r = absurd r
+refused command bytes script (refusals.Byte at) h r = absurd r
+refused command bytes script (refusals.Number at) h r = absurd r
+refused command bytes script (refusals.Syntax at) h r = absurd r
+refused command bytes script (refusals.Nesting at) h r = absurd r
+refused command bytes script (refusals.Unknown item) h r = h
+refused command bytes script (refusals.Twice item) h r = h
+refused command bytes script (refusals.Mistyped item) h r = h
+refused command bytes script (refusals.TooDeep item) h r = h
+refused command bytes script (refusals.TooMany item) h r = h
+refused command bytes script (refusals.BadStep item) h r = h
+refused command bytes script (refusals.BackwardRange item) h r = h
+refused command bytes script (refusals.LengthsDiffer item) h r = h
+refused command bytes script (refusals.BadIdentity item) h r = h
+refused command bytes script (refusals.NotAffine item) h r = h
+refused command bytes script (refusals.OutOfRange item position) h r = h
+refused command bytes script (refusals.Later item) h r = h
 
 -- for want of memory nothing is written
 pub nothing_ends : (command : Command) (bytes : List ℕ) (old : Option (List ℕ)) → Ends command bytes status.NoMemory old old
@@ -98,6 +128,7 @@ wrote_part command bytes held answer old new is h = (h.part.0, h.part.1, appende
 
 takes : (command : Command) (bytes text : List ℕ) → IsWholeText command bytes text → Takes command bytes
 takes (commands.Run pool) bytes text h = (h.0, h.1)
+takes commands.Check bytes text h = (h.0, h.1)
 takes commands.Print bytes text h = (h.0, h.1)
 
 -- with no fault the script decides

@@ -1,10 +1,7 @@
+pub mod Clips
 pub mod CommandLines
 pub mod Endings
-pub mod Fronts
 pub mod Exclusions
-pub mod Places
-pub mod Ranges
 pub mod Runs
+pub mod Sizes
 pub mod Texts
-pub mod Values
-pub mod WholeItems

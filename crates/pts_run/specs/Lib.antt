@@ -1,8 +1,5 @@
-pub mod First
+pub mod Acceptance
 pub mod Output
-pub mod Ranges
-pub mod Reading
-pub mod Run
 pub mod Settings
 pub mod Text
 pub mod Words

@@ -6,16 +6,16 @@ use Rattle.pts_print.specs.Canonical.{canonical}
 use Rattle.pts_syntax.specs.Syntax.{IsParsed, ExplainsKind}
 use Rattle.pts_syntax.specs.declared.reading.SyntaxKind.{SyntaxKind}
 use Rattle.pts_syntax.specs.declared.reading.SyntaxKind.TheVariants as fault_kinds
-use Rattle.pts_run.specs.declared.first.First.{First}
+use Rattle.pts_program.specs.declared.lists.Lists.{Lists}
+use Rattle.pts_eval.specs.Runs.{Run, PermittedRun}
 use Rattle.pts_run.specs.declared.status.Status.{Status}
 use Rattle.pts_run.specs.declared.status.Status.TheVariants as status
 use Rattle.pts_run.specs.declared.refusal.Refusal.{Refusal}
 use Rattle.pts_run.specs.declared.refusal.Refusal.TheVariants as refusals
 use Rattle.pts_run.specs.declared.words.Command.{Command}
 use Rattle.pts_run.specs.declared.words.Command.TheVariants as commands
-use Rattle.pts_run.specs.First.{IsFirst, IsLater}
-use Rattle.pts_run.specs.Run.{Run, PermittedRun}
-use Rattle.pts_run.specs.Text.{refusal_line, text_of}
+use Rattle.pts_run.specs.Acceptance.{IsAccepted, Rejects}
+use Rattle.pts_run.specs.Text.{accepted_line, refusal_line, text_of}
 
 -- the most bytes of a script
 abbrev pub script_limit : ℕ
@@ -28,20 +28,25 @@ pub record Reads (bytes : List ℕ) (script : Script) : Type 0 where
   pub short : length bytes ≤ script_limit
   pub parsed : IsParsed bytes script
 
--- the bytes are a script whose items are all whole, and make this
-pub record Accepts (bytes : List ℕ) (made : First) : Type 0 where
+-- the bytes are a script that is run, and make these lists
+pub record Accepts (bytes : List ℕ) (made : Lists) : Type 0 where
   pub script : Script
   pub reads : Reads bytes script
-  pub whole : IsFirst script made
+  pub accepted : IsAccepted script made
 
 -- the bytes are within the limit, and no script, for a fault of this kind at this byte
 abbrev pub FailsAt : List ℕ → ℕ → SyntaxKind → Type 0
 FailsAt bytes at kind = (length bytes ≤ script_limit) × ExplainsKind bytes at kind
 
--- the bytes are a script that is not run, since this item is not whole; printing asks for no whole items
-abbrev pub IsLaterFor : Command → List ℕ → ℕ → Type 0
-IsLaterFor (commands.Run pool) bytes item = (script : Script) × Reads bytes script × IsLater script item
-IsLaterFor commands.Print bytes item = ⊥
+-- the bytes are a script that is not run for this reason
+abbrev pub IsRejected : List ℕ → Refusal → Type 0
+IsRejected bytes reason = (script : Script) × Reads bytes script × Rejects script reason
+
+-- the same, under a command that asks for a script that is run; printing does not
+abbrev pub RejectsFor : Command → List ℕ → Refusal → Type 0
+RejectsFor (commands.Run pool) bytes reason = IsRejected bytes reason
+RejectsFor commands.Check bytes reason = IsRejected bytes reason
+RejectsFor commands.Print bytes reason = ⊥
 
 -- the command refuses the bytes for this
 abbrev pub Refuses : Command → List ℕ → Refusal → Type 0
@@ -50,29 +55,32 @@ Refuses command bytes (refusals.Byte at) = FailsAt bytes at fault_kinds.Byte
 Refuses command bytes (refusals.Number at) = FailsAt bytes at fault_kinds.Number
 Refuses command bytes (refusals.Syntax at) = FailsAt bytes at fault_kinds.Unexpected
 Refuses command bytes (refusals.Nesting at) = FailsAt bytes at fault_kinds.Nesting
-Refuses command bytes (refusals.Later item) = IsLaterFor command bytes item
+Refuses command bytes reason = RejectsFor command bytes reason
 
 -- the command takes the bytes
 abbrev pub Takes : Command → List ℕ → Type 0
-Takes (commands.Run pool) bytes = (made : First) × Accepts bytes made
+Takes (commands.Run pool) bytes = (made : Lists) × Accepts bytes made
+Takes commands.Check bytes = (made : Lists) × Accepts bytes made
 Takes commands.Print bytes = (script : Script) × Reads bytes script
 
 -- ---- texts
 
--- the text of a permitted run of the script's first `count` statements
-pub record IsRunText (script : First) (count : ℕ) (text : List ℕ) : Type 0 where
+-- the text of a permitted run of the program's first `count` statements
+pub record IsRunText (lists : Lists) (count : ℕ) (text : List ℕ) : Type 0 where
   pub run : Run
-  pub permitted : PermittedRun script count run
+  pub permitted : PermittedRun lists count run
   pub text_is : text ≡ text_of run.answers
 
 -- the whole text that the command gives for bytes that it takes
 abbrev pub IsWholeText : Command → List ℕ → List ℕ → Type 0
-IsWholeText (commands.Run pool) bytes text = (made : First) × Accepts bytes made × IsRunText made (length made.statements) text
+IsWholeText (commands.Run pool) bytes text = (made : Lists) × Accepts bytes made × IsRunText made (length made.statements) text
+IsWholeText commands.Check bytes text = (made : Lists) × Accepts bytes made × (text ≡ accepted_line)
 IsWholeText commands.Print bytes text = (script : Script) × Reads bytes script × (text ≡ canonical script)
 
 -- the same, or under `run` the text of a run of some first statements
 abbrev pub IsFrontText : Command → List ℕ → List ℕ → Type 0
-IsFrontText (commands.Run pool) bytes text = (made : First) × (count : ℕ) × Accepts bytes made × IsRunText made count text
+IsFrontText (commands.Run pool) bytes text = (made : Lists) × (count : ℕ) × Accepts bytes made × IsRunText made count text
+IsFrontText commands.Check bytes text = IsWholeText commands.Check bytes text
 IsFrontText commands.Print bytes text = IsWholeText commands.Print bytes text
 
 -- the whole text that goes with an answer of the command, for these source bytes

@@ -1,16 +1,26 @@
--- The printed texts: the line of each answer, and the line of a refusal.
-use Rattle.std.specs.Prelude.{ℕ, ◌+◌, List, [], ◌∷◌, ◌++◌, codes, decimal}
+-- The printed texts: the line of each answer, of a script that is accepted, and of a refusal.
+use Rattle.std.specs.Prelude.{ℕ, ◌+◌, true, false, List, [], ◌∷◌, ◌++◌, codes, decimal}
 use Rattle.std.specs.List.{flat_map}
 use Rattle.pts_run.specs.declared.refusal.Refusal.{Refusal}
 use Rattle.pts_run.specs.declared.refusal.Refusal.TheVariants as refusals
-use Rattle.pts_run.specs.Run.{Answer, Reduced, Printed}
+use Rattle.std.specs.Fmt.{signed_decimal}
+use Rattle.pts_types.specs.declared.value.Value.{Value}
+use Rattle.pts_types.specs.declared.value.Value.TheVariants as values
+use Rattle.pts_eval.specs.Runs.{Answer, Reduced, Printed}
 
 abbrev pub line_feed : List ℕ
 line_feed = 10 ∷ []
 
--- each number behind a space
-abbrev pub spaced : List ℕ → List ℕ
-spaced cells = flat_map (λ cell. codes " " ++ decimal cell) cells
+-- a number in decimal, a negative one with `-`, or a word
+abbrev pub value_text : Value → List ℕ
+value_text (values.I64 z) = signed_decimal z
+value_text (values.U64 n) = decimal n
+value_text (values.Bool true) = codes "true"
+value_text (values.Bool false) = codes "false"
+
+-- each value behind a space
+abbrev pub spaced : List Value → List ℕ
+spaced cells = flat_map (λ cell. codes " " ++ value_text cell) cells
 
 -- the line of a statement, which is named by its number among the statements from 1 on
 abbrev pub line_of : ℕ → Answer → List ℕ
@@ -25,6 +35,10 @@ lines_from number (a ∷ rest) = line_of number a ++ lines_from (number + 1) res
 abbrev pub text_of : List Answer → List ℕ
 text_of answers = lines_from 1 answers
 
+-- the line of a script that is accepted
+abbrev pub accepted_line : List ℕ
+accepted_line = codes "accepted" ++ line_feed
+
 -- the line of a refusal
 abbrev pub refusal_line : Refusal → List ℕ
 refusal_line refusals.TooLong = codes "refused too_long" ++ line_feed
@@ -32,4 +46,15 @@ refusal_line (refusals.Byte at) = codes "refused byte at " ++ decimal at ++ line
 refusal_line (refusals.Number at) = codes "refused number at " ++ decimal at ++ line_feed
 refusal_line (refusals.Syntax at) = codes "refused syntax at " ++ decimal at ++ line_feed
 refusal_line (refusals.Nesting at) = codes "refused nesting at " ++ decimal at ++ line_feed
+refusal_line (refusals.Unknown item) = codes "refused unknown item " ++ decimal item ++ line_feed
+refusal_line (refusals.Twice item) = codes "refused twice item " ++ decimal item ++ line_feed
+refusal_line (refusals.Mistyped item) = codes "refused mistyped item " ++ decimal item ++ line_feed
+refusal_line (refusals.TooDeep item) = codes "refused too_deep item " ++ decimal item ++ line_feed
+refusal_line (refusals.TooMany item) = codes "refused too_many item " ++ decimal item ++ line_feed
+refusal_line (refusals.BadStep item) = codes "refused bad_step item " ++ decimal item ++ line_feed
+refusal_line (refusals.BackwardRange item) = codes "refused backward_range item " ++ decimal item ++ line_feed
+refusal_line (refusals.LengthsDiffer item) = codes "refused lengths_differ item " ++ decimal item ++ line_feed
+refusal_line (refusals.BadIdentity item) = codes "refused bad_identity item " ++ decimal item ++ line_feed
+refusal_line (refusals.NotAffine item) = codes "refused not_affine item " ++ decimal item ++ line_feed
+refusal_line (refusals.OutOfRange item position) = codes "refused out_of_range item " ++ decimal item ++ codes " position " ++ decimal position ++ line_feed
 refusal_line (refusals.Later item) = codes "refused later item " ++ decimal item ++ line_feed

@@ -45,4 +45,5 @@ pub record IsRun (words : List (List ℕ)) (pool : Pool) : Type 0 where
 -- the words are this command
 abbrev pub IsCommand : List (List ℕ) → Command → Type 0
 IsCommand words (commands.Run pool) = IsRun words pool
+IsCommand words commands.Check = words ≡ codes "check" ∷ []
 IsCommand words commands.Print = words ≡ codes "print" ∷ []

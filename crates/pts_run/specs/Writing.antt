@@ -2,7 +2,7 @@
 use Rattle.std.specs.Prelude.{◌≡◌, ℕ, List, Option, Result, Err, OnOk}
 use Rattle.std.specs.Io.{StartsWith}
 use Rattle.std.specs.Io.KnownBytes.{Appends}
-use Rattle.pts_run.specs.declared.first.First.{First}
+use Rattle.pts_program.specs.declared.lists.Lists.{Lists}
 use Rattle.pts_run.specs.declared.run.WriteEnd.{WriteEnd}
 use Rattle.pts_run.specs.declared.run.WriteEnd.TheVariants as ends
 use Rattle.pts_run.specs.declared.status.Status.{Status}
@@ -10,17 +10,17 @@ use Rattle.pts_run.specs.declared.status.Status.TheVariants as status
 use Rattle.pts_run.specs.declared.words.Command.{Command}
 use Rattle.pts_run.specs.Output.{IsRunText, IsOutput, IsPartialOutput}
 
--- what a sink holds grew by the text of a permitted run of the script's first `count` statements
-pub record WritesRun (script : First) (count : ℕ) (old new : Option (List ℕ)) : Type 0 where
+-- what a sink holds grew by the text of a permitted run of the program's first `count` statements
+pub record WritesRun (lists : Lists) (count : ℕ) (old new : Option (List ℕ)) : Type 0 where
   pub text : List ℕ
-  pub is_text : IsRunText script count text
+  pub is_text : IsRunText lists count text
   pub appends : Appends old new text
 
 -- what a sink holds grew by a front of the text of a permitted run of some first statements
-pub record WritesRunPart (script : First) (old new : Option (List ℕ)) : Type 0 where
+pub record WritesRunPart (lists : Lists) (old new : Option (List ℕ)) : Type 0 where
   pub count : ℕ
   pub whole : List ℕ
-  pub is_text : IsRunText script count whole
+  pub is_text : IsRunText lists count whole
   pub text : List ℕ
   pub starts : StartsWith whole text
   pub appends : Appends old new text

@@ -1,10 +1,8 @@
 //! The top call: words and bytes in, the text of a run, a script's canonical spelling or one line of refusal out.
 #![tactic(auto)]
 
+mod accept;
 mod answer;
-mod draft;
-mod first;
-mod forms;
 mod laws;
 mod lines;
 mod refusal;
@@ -17,7 +15,6 @@ mod tests;
 mod top;
 mod words;
 
-pub use first::{First, FirstArray, FirstFault, FirstStatement, as_first, one_first};
 pub use laws::{one_reason, takes_or_refuses};
 pub use refusal::Refusal;
 pub use status::Status;

@@ -1,11 +1,12 @@
 //! The texts of lines.
 
-ghost use Rattle.std.specs.Prelude.{◌≡◌, ◌++◌, OnOk};
-ghost use Rattle.pts_run.specs.Run.{Reduced, Printed};
-ghost use Rattle.pts_run.specs.Text.{line_feed, line_of, spaced, refusal_line};
+ghost use Rattle.std.specs.Prelude.{◌≡◌, ◌++◌, OnOk, codes, decimal};
+ghost use Rattle.pts_eval.specs.Runs.{Reduced, Printed};
+ghost use Rattle.pts_run.specs.Text.{line_feed, line_of, spaced, value_text, refusal_line};
 
 use crate::refusal::Refusal;
 use itoa::{Buffer, Integer};
+use pts_types::Value;
 use std::alloc::AllocError;
 
 /// Puts the line of a sum behind what the text holds.
@@ -25,7 +26,7 @@ pub fn push_printed(
     text: &mut Vec<u8>,
     number: usize,
     name: &str,
-    cells: &[u64],
+    cells: &[Value],
 ) -> Result<(), AllocError>
     ensures { OnOk result (text.new.items ≡ text.old.items ++ line_of number (Printed name.now cells.now)) }
 {
@@ -47,6 +48,19 @@ pub fn push_refusal(text: &mut Vec<u8>, refusal: Refusal) -> Result<(), AllocErr
         Refusal::Number(at) => push_counted(text, b"refused number at ", at),
         Refusal::Syntax(at) => push_counted(text, b"refused syntax at ", at),
         Refusal::Nesting(at) => push_counted(text, b"refused nesting at ", at),
+        Refusal::Unknown(item) => push_counted(text, b"refused unknown item ", item),
+        Refusal::Twice(item) => push_counted(text, b"refused twice item ", item),
+        Refusal::Mistyped(item) => push_counted(text, b"refused mistyped item ", item),
+        Refusal::TooDeep(item) => push_counted(text, b"refused too_deep item ", item),
+        Refusal::TooMany(item) => push_counted(text, b"refused too_many item ", item),
+        Refusal::BadStep(item) => push_counted(text, b"refused bad_step item ", item),
+        Refusal::BackwardRange(item) => push_counted(text, b"refused backward_range item ", item),
+        Refusal::LengthsDiffer(item) => push_counted(text, b"refused lengths_differ item ", item),
+        Refusal::BadIdentity(item) => push_counted(text, b"refused bad_identity item ", item),
+        Refusal::NotAffine(item) => push_counted(text, b"refused not_affine item ", item),
+        Refusal::OutOfRange { item, position } => {
+            push_placed(text, b"refused out_of_range item ", item, position)
+        }
         Refusal::Later(item) => push_counted(text, b"refused later item ", item),
     }
 }
@@ -61,15 +75,36 @@ fn push_counted<I: Integer>(text: &mut Vec<u8>, words: &[u8], number: I) -> Resu
     text.extend_from_slice(b"\n")
 }
 
-// Each number behind a space.
-fn push_spaced(text: &mut Vec<u8>, cells: &[u64]) -> Result<(), AllocError>
+// A line of these words, an item and a position.
+#[tactic(auto, using(std::proofs::lemmas::List::append_assoc))]
+fn push_placed(text: &mut Vec<u8>, words: &[u8], item: u32, position: u64) -> Result<(), AllocError>
+    ensures { OnOk result (text.new.items ≡ text.old.items ++ (words.now ++ (decimal item ++ (codes " position " ++ (decimal position ++ line_feed))))) }
+{
+    text.extend_from_slice(words)?;
+    push_number(text, item)?;
+    push_counted(text, b" position ", position)
+}
+
+// Each value behind a space.
+fn push_spaced(text: &mut Vec<u8>, cells: &[Value]) -> Result<(), AllocError>
     ensures { OnOk result (text.new.items ≡ text.old.items ++ spaced cells.now) }
 {
     for cell in cells {
         text.extend_from_slice(b" ")?;
-        push_number(text, *cell)?;
+        push_value(text, *cell)?;
     }
     Ok(())
+}
+
+fn push_value(text: &mut Vec<u8>, value: Value) -> Result<(), AllocError>
+    ensures { OnOk result (text.new.items ≡ text.old.items ++ value_text value) }
+{
+    match value {
+        Value::I64(number) => push_number(text, number),
+        Value::U64(number) => push_number(text, number),
+        Value::Bool(true) => text.extend_from_slice(b"true"),
+        Value::Bool(false) => text.extend_from_slice(b"false"),
+    }
 }
 
 fn push_number<I: Integer>(text: &mut Vec<u8>, number: I) -> Result<(), AllocError>

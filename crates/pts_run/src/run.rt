@@ -1,22 +1,22 @@
-//! Running statements in order, and writing each one's line.
+//! Running the statements of a program in order, and writing each one's line.
 
-ghost use Rattle.std.specs.Prelude.{◌≡◌, ◌<◌, ◌≤◌, ◌++◌, List, ℕ, length, All, Err, OnOk};
+ghost use Rattle.std.specs.Prelude.{◌≡◌, ◌≤◌, ◌++◌, List, ℕ, false, length, None, Err, OnOk};
 ghost use Rattle.std.specs.Io.{StartsWith};
 ghost use Rattle.std.specs.Io.KnownBytes.{Appends};
 ghost use Rattle.pts_io.specs.Streams.{HasRisen};
 ghost use Rattle.pts_print.specs.Canonical.{canonical};
-ghost use Rattle.pts_run.specs.First.{name_at, cells_at};
+ghost use Rattle.pts_eval.specs.Runs.{Answer, Performs, name_at};
+ghost use Rattle.pts_eval.specs.Works.{first_later, is_later};
 ghost use Rattle.pts_run.specs.declared.run.WriteEnd.TheVariants.{Fault, NoMemory};
 ghost use Rattle.pts_run.specs.Writing.{WritesRun, WritesRunPart};
-ghost use Rattle.pts_run.specs.Ranges.{IsInRange};
-ghost use Rattle.pts_run.specs.Run.{Answer, Performs, start_store};
-ghost use Rattle.pts_run.specs.Text.{line_of, refusal_line};
+ghost use Rattle.pts_run.specs.Text.{accepted_line, line_of, refusal_line};
 
-use crate::first::{First, FirstArray, FirstStatement};
 use crate::lines::{push_printed, push_reduced, push_refusal};
 use crate::refusal::Refusal;
-use crate::sums::sum_of;
+use crate::sums::sum_between;
+use pts_eval::{Store, Work, work_of};
 use pts_io::{Sink, SinkFault, write_all};
+use pts_program::{Program, StatementInfo};
 use pts_syntax::print;
 use pts_tree::Script;
 use pts_types::NoMemory;
@@ -53,20 +53,33 @@ impl From<SinkFault> for WriteEnd {
     }
 }
 
-/// Runs the statements in order. Each one's line is written once it has ended.
-pub fn run_script<K: Sink>(alloc: Global, script: &First, sink: &mut K) -> Result<(), WriteEnd>
-    requires { All (IsInRange script.now.arrays) script.now.statements }
-    ensures whole { OnOk result (WritesRun script.now (length script.now.statements) (K.written sink.old) (K.written sink.new)) }
-    ensures part { WritesRunPart script.now (K.written sink.old) (K.written sink.new) }
+/// Runs the statements in order, all of which are built. Each one's line is written once it has ended.
+#[tactic(auto, using(crate::proofs::Runs::is_built))]
+pub fn run_program<K: Sink>(alloc: Global, program: &Program, sink: &mut K) -> Result<(), WriteEnd>
+    requires { first_later program.now ≡ None }
+    ensures whole { OnOk result (WritesRun program.now (length program.now.statements) (K.written sink.old) (K.written sink.new)) }
+    ensures part { WritesRunPart program.now (K.written sink.old) (K.written sink.new) }
     ensures fault { result ≡ Err WriteEnd.Fault → HasRisen (K.faults sink.old) (K.faults sink.new) }
     ensures counts { K.faults sink.old ≤ K.faults sink.new }
 {
+    let store = Store::start(alloc, program)?;
     let mut line = Vec::new(alloc);
-    for (place, statement) in script.statements.as_slice().iter().enumerate() {
+    for (place, statement) in program.statements().iter().enumerate() {
         line.clear();
-        push_line(&mut line, script, place + 1, *statement)?;
+        push_line(&mut line, program, &store, place + 1, *statement)?;
         write_all(sink, &line)?;
     }
+    Ok(())
+}
+
+/// Writes the line of a script that is accepted.
+pub fn write_accepted<K: Sink>(sink: &mut K) -> Result<(), WriteEnd>
+    ensures whole { OnOk result (Appends (K.written sink.old) (K.written sink.new) accepted_line) }
+    ensures part { (text : List ℕ) × StartsWith accepted_line text × Appends (K.written sink.old) (K.written sink.new) text }
+    ensures fault { result ≡ Err WriteEnd.Fault → HasRisen (K.faults sink.old) (K.faults sink.new) }
+    ensures counts { K.faults sink.old ≤ K.faults sink.new }
+{
+    write_all(sink, b"accepted\n")?;
     Ok(())
 }
 
@@ -99,42 +112,43 @@ pub fn write_canonical<K: Sink>(
     Ok(())
 }
 
-// Performs the statement, and puts its line behind what the text holds.
+// Performs a statement that is built, and puts its line behind what the text holds.
 fn push_line(
     text: &mut Vec<u8>,
-    script: &First,
+    program: &Program,
+    store: &Store,
     number: usize,
-    statement: FirstStatement,
+    statement: StatementInfo,
 ) -> Result<(), AllocError>
-    requires { IsInRange script.now.arrays statement }
-    ensures { OnOk result ((answer : Answer) × Performs script.now statement (start_store script.now) answer (start_store script.now)
-        × (text.new.items ≡ text.old.items ++ line_of number answer)) }
+    requires { is_later program.now statement ≡ false }
+    ensures { OnOk result ((answer : Answer) × Performs program.now statement store.now answer store.now × (text.new.items ≡ text.old.items ++ line_of number answer)) }
 {
-    match statement {
-        FirstStatement::Reduce {
-            array,
-            low,
-            high,
-            init,
-        } => {
-            let cells = array_at(script, array).cells.as_slice();
-            push_reduced(
-                text,
-                number,
-                sum_of(init, &cells[low as usize..high as usize]),
-            )
+    match work_of(program, statement) {
+        Some(
+            Work::Sum {
+                init,
+                array,
+                low,
+                high,
+            },
+        ) => push_reduced(
+            text,
+            number,
+            sum_between(init, store.cells(array), low, high),
+        ),
+        Some(Work::Print(array)) => {
+            push_printed(text, number, name_of(program, array), store.cells(array))
         }
-        FirstStatement::Print(array) => {
-            let array = array_at(script, array);
-            push_printed(text, number, array.name.as_str(), array.cells.as_slice())
-        }
+        None => unreachable!(),
     }
 }
 
-fn array_at(script: &First, array: u32) -> &FirstArray
-    requires { array < length script.now.arrays }
-    ensures name { result.now.name ≡ name_at script.now.arrays array }
-    ensures cells { result.now.cells ≡ cells_at script.now.arrays array }
+// The name of the array with this number; empty where there is no such array.
+fn name_of(program: &Program, array: u32) -> &str
+    ensures { result.now ≡ name_at program.now array }
 {
-    &script.arrays.as_slice()[array as usize]
+    match program.arrays().get(array as usize) {
+        Some(info) => info.name.as_str(),
+        None => "",
+    }
 }

@@ -1,9 +1,14 @@
 //! Command lines, and whole calls over sources and sinks in memory.
 
-use crate::{Command, FirstFault, FirstStatement, Status, as_first, read_words, run_words};
+mod refusals;
+
+use crate::{Command, Status, read_words, run_words};
 use pts_boards::Pool;
+use pts_eval::eval_fn;
 use pts_io::{MemorySink, MemorySource};
+use pts_program::build;
 use pts_syntax::parse;
+use pts_types::{Thrown, Value};
 use std::alloc::{AllocError, Global};
 use std::test::Fail;
 
@@ -56,6 +61,10 @@ fn reads_the_words_of_a_run(rt: HostRuntime) -> Result<(), Fail> {
         );
     }
     assert_eq!(rt;
+        read_words(&words(alloc, &["check"])?),
+        Some(Command::Check)
+    );
+    assert_eq!(rt;
         read_words(&words(alloc, &["print"])?),
         Some(Command::Print)
     );
@@ -91,8 +100,8 @@ fn other_words_read_and_write_nothing(rt: HostRuntime) -> Result<(), Fail> {
         &["--workers", "1", "run"],
         &["print", "x"],
         &["print", "--workers", "1"],
-        &["check"],
         &["check", "x"],
+        &["check", "--workers", "1"],
     ];
     for texts in table {
         assert_eq!(rt; read_words(&words(alloc, texts)?), None);
@@ -103,90 +112,9 @@ fn other_words_read_and_write_nothing(rt: HostRuntime) -> Result<(), Fail> {
     Ok(())
 }
 
-// Where the items of a script are not whole, the first such item.
-#[test]
-fn names_the_first_item_that_is_not_whole(rt: HostRuntime) -> Result<(), Fail> {
-    let alloc = rt.alloc();
-    let table: [(&[u8], Option<u32>); 18] = [
-        (b"pts 1;", None),
-        (b"pts 1;array a:u64[2]=list 1,002;", None),
-        (b"pts 1; array a: u64[2] = list 1;", Some(1)),
-        (b"pts 1; array a: u64[1] = list 1, 2;", Some(1)),
-        (b"pts 1; array a: u64[0] = list 1;", Some(1)),
-        (b"pts 1; array a: i64[1] = list 1;", Some(1)),
-        (b"pts 1; array a: u64[1] = list -1;", Some(1)),
-        (b"pts 1; array a: u64[1 + 0] = list 1;", Some(1)),
-        (b"pts 1; array a: u64[1] = list 18446744073709551615;", None),
-        (
-            b"pts 1; array a: u64[1] = list 1; array a: u64[1] = list 2;",
-            Some(2),
-        ),
-        (
-            b"pts 1; array a: u64[1] = list 1; reduce seq a[1..1] init 0 plus;",
-            None,
-        ),
-        (
-            b"pts 1; array a: u64[1] = list 1; reduce seq a[1..0] init 0 plus;",
-            Some(2),
-        ),
-        (
-            b"pts 1; array a: u64[1] = list 1; reduce seq a[0..2] init 0 plus;",
-            Some(2),
-        ),
-        (
-            b"pts 1; array a: u64[1] = list 1; reduce seq b[0..1] init 0 plus;",
-            Some(2),
-        ),
-        (
-            b"pts 1; array a: u64[1] = list 1; reduce par a[0..1] init 0 plus;",
-            Some(2),
-        ),
-        (
-            b"pts 1; array a: u64[1] = list 1; reduce seq a[0..1] init 0 plus into a[0];",
-            Some(2),
-        ),
-        (b"pts 1; print a; array a: u64[1] = list 1;", Some(1)),
-        (b"pts 1; array a: u64[1048577] = list 1;", Some(1)),
-    ];
-    for (text, item) in table {
-        let Ok(script) = parse(alloc, text) else {
-            return Err(Fail::from("no script"));
-        };
-        let found = as_first(alloc, &script).map(|_| ()).err();
-        assert_eq!(rt; found, item.map(|item| FirstFault::Later { item }));
-    }
-    Ok(())
-}
-
-#[test]
-fn names_arrays_by_their_numbers(rt: HostRuntime) -> Result<(), Fail> {
-    let text =
-        b"pts 1; array b: u64[1] = list 5; array a_2: u64[3] = list 7, 0, 9; reduce seq a_2[1..3] init 4 plus; print b;";
-    let Ok(script) = parse(rt.alloc(), text) else {
-        return Err(Fail::from("no script"));
-    };
-    let Ok(made) = as_first(rt.alloc(), &script) else {
-        return Err(Fail::from("refused"));
-    };
-    let second = made.arrays.get(1).ok_or("no array")?;
-    assert_eq!(rt; second.name.as_str(), "a_2");
-    assert_eq!(rt; second.cells.as_slice(), [7, 0, 9].as_slice());
-    let sum = FirstStatement::Reduce {
-        array: 1,
-        low: 1,
-        high: 3,
-        init: 4,
-    };
-    assert_eq!(rt;
-        made.statements.as_slice(),
-        [sum, FirstStatement::Print(0)].as_slice()
-    );
-    Ok(())
-}
-
 #[test]
 fn writes_the_lines_or_the_refusal(rt: HostRuntime) -> Result<(), Fail> {
-    let table: [(&[u8], Status, &[u8]); 15] = [
+    let table: [(&[u8], Status, &[u8]); 22] = [
         (b"pts 1;", Status::Done, b""),
         (ONE_LINE, Status::Done, b"1: reduce 6\n"),
         (TWO_LINES, Status::Done, b"1: reduce 6\n2: print a 1 2 3\n"),
@@ -201,17 +129,54 @@ fn writes_the_lines_or_the_refusal(rt: HostRuntime) -> Result<(), Fail> {
             b"1: reduce 1\n",
         ),
         (
-            b"pts 1; array a: u64[1] = list 0; array long_name: u64[1] = list 18446744073709551615; print long_name;",
+            b"pts 1; const N = 2 + 1; array a: i64[N] = iota 5 step -2; print a;",
             Status::Done,
-            b"1: print long_name 18446744073709551615\n",
+            b"1: print a 5 3 1\n",
         ),
         (
-            b"pts 1; array a: u64[1] = fill 4;",
+            b"pts 1; array t: bool[2] = list true, false; array e: u64[0] = fill 1; array m: u64[1] = mix 0; print t; print e; print m;",
+            Status::Done,
+            b"1: print t true false\n2: print e\n3: print m 11400714820970677676\n",
+        ),
+        (
+            b"pts 1; array a: i64[1] = fill -9223372036854775808; array long_name: u64[1] = fill 18446744073709551615; print a; print long_name;",
+            Status::Done,
+            b"1: print a -9223372036854775808\n2: print long_name 18446744073709551615\n",
+        ),
+        // An array that another one stands before.
+        (
+            b"pts 1; array a: u64[1] = fill 1; array b: u64[1] = fill 2; const N = 1; reduce seq b[0..N] init N plus; reduce seq a[0..N] init N plus;",
+            Status::Done,
+            b"1: reduce 3\n2: reduce 2\n",
+        ),
+        (
+            b"pts 1; array a: u64[2] = list 1;",
             Status::Refused,
-            b"refused later item 1\n",
+            b"refused lengths_differ item 1\n",
         ),
         (
-            b"pts 1; array a: u64[1] = list 4; print a; print b;",
+            b"pts 1; fn f(x: u64) -> u64 = f(x);",
+            Status::Refused,
+            b"refused unknown item 1\n",
+        ),
+        (
+            b"pts 1; print a;",
+            Status::Refused,
+            b"refused unknown item 1\n",
+        ),
+        (
+            b"pts 1; array a: u64[5] = fill 0; for_loop seq i = 0 to 5 { a[i] = a[i+1]; }",
+            Status::Refused,
+            b"refused out_of_range item 2 position 4\n",
+        ),
+        // A rule that a later item breaks comes before an item that is not built.
+        (
+            b"pts 1; array a: u64[2] = fill 4; reduce par a[0..2] init 0 plus; print b;",
+            Status::Refused,
+            b"refused unknown item 3\n",
+        ),
+        (
+            b"pts 1; array a: i64[2] = fill 4; print a; reduce seq a[0..2] init 0 plus; task_block { }",
             Status::Refused,
             b"refused later item 3\n",
         ),
@@ -240,6 +205,33 @@ fn writes_the_lines_or_the_refusal(rt: HostRuntime) -> Result<(), Fail> {
     Ok(())
 }
 
+// The value of `f(x, y)`, where the script declares f alone.
+fn value_of(alloc: Global, text: &[u8], x: i64, y: i64) -> Option<Result<Value, Thrown>> {
+    let script = parse(alloc, text).ok()?;
+    if script.items.len() > 1 {
+        return None;
+    }
+    let program = build(alloc, &script).ok()?;
+    if program.functions().is_empty() {
+        return None;
+    }
+    Some(eval_fn(&program, 0, &[Value::I64(x), Value::I64(y)]))
+}
+
+#[test]
+fn functions_have_values(rt: HostRuntime) -> Result<(), Fail> {
+    let text = b"pts 1; fn f(x: i64, y: i64) -> i64 = x / y + x % y;";
+    let table: [(i64, i64, Result<Value, Thrown>); 3] = [
+        (-7, 2, Ok(Value::I64(-4))),
+        (7, 0, Err(Thrown::DivZero)),
+        (i64::MIN, -1, Err(Thrown::Overflow)),
+    ];
+    for (x, y, value) in table {
+        assert_eq!(rt; value_of(rt.alloc(), text, x, y), Some(value));
+    }
+    Ok(())
+}
+
 // Opening parentheses and nothing behind them.
 #[test]
 fn at_most_64_brackets_are_open(rt: HostRuntime) -> Result<(), Fail> {
@@ -259,7 +251,32 @@ fn at_most_64_brackets_are_open(rt: HostRuntime) -> Result<(), Fail> {
     Ok(())
 }
 
-// Printing asks for no whole items.
+#[test]
+fn checks_what_is_run(rt: HostRuntime) -> Result<(), Fail> {
+    let table: [(&[u8], Status, &[u8]); 5] = [
+        (ONE_LINE, Status::Done, b"accepted\n"),
+        (b"pts 1;", Status::Done, b"accepted\n"),
+        (
+            b"pts 1; array a: u64[1] = fill 1; reduce par a[0..1] init 0 plus;",
+            Status::Refused,
+            b"refused later item 2\n",
+        ),
+        (
+            b"pts 1; print a;",
+            Status::Refused,
+            b"refused unknown item 1\n",
+        ),
+        (b"pts", Status::Refused, b"refused syntax at 3\n"),
+    ];
+    for (script, status, text) in table {
+        let (found, sink) = call(rt.alloc(), &["check"], script, NEVER, NEVER)?;
+        assert_eq!(rt; sink.bytes(), text);
+        assert_eq!(rt; found, status);
+    }
+    Ok(())
+}
+
+// Printing asks for no script that is run.
 #[test]
 fn prints_the_canonical_spelling(rt: HostRuntime) -> Result<(), Fail> {
     let table: [(&[u8], Status, &[u8]); 3] = [

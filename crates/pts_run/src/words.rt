@@ -19,6 +19,8 @@ const USUAL_CHUNK: u32 = 1_024;
 pub enum Command {
     /// Reads a script, runs it and writes its lines.
     Run { pool: Pool },
+    /// Reads a script, checks it and writes `accepted`.
+    Check,
     /// Reads a script and writes its canonical spelling.
     Print,
 }
@@ -62,7 +64,7 @@ impl Settings {
 }
 
 /// The command that the words are; None exactly where they are none. The options of `run` are `--workers N`, 1 to 64, and
-/// `--chunk N`, 1 to 65,536, in any order and each at most once; without them N is 4 and 1,024. `print` has none.
+/// `--chunk N`, 1 to 65,536, in any order and each at most once; without them N is 4 and 1,024. `check` and `print` have none.
 pub fn read_words(words: &[String]) -> Option<Command>
     ensures { (command : Command) → (result ≡ Some command) ↔ IsCommand (map string_bytes words.now) command }
 {
@@ -75,7 +77,13 @@ pub fn read_words(words: &[String]) -> Option<Command>
                     pool: read_settings(rest)?,
                 });
             }
-            if word == "print" && rest.is_empty() {
+            if !rest.is_empty() {
+                return None;
+            }
+            if word == "check" {
+                return Some(Command::Check);
+            }
+            if word == "print" {
                 return Some(Command::Print);
             }
             None

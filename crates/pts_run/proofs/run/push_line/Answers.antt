@@ -1,15 +1,25 @@
-use Rattle.std.proofs.Common.{◌∙◌}
+use Rattle.std.proofs.Common.{map, refl, ap, ◌∙◌}
+use Rattle.std.specs.Prelude.{slice_range}
 use Rattle.std.proofs.lemmas.Result.{on_ok_weaker}
-use Rattle.pts_run.specs.Run.{Reduced, Printed}
-use Rattle.pts_run.proofs.Runs.{reduces, prints}
+use Rattle.pts_eval.specs.Runs.{Reduced, Printed, number_of, sum_of}
+use Rattle.pts_run.proofs.Runs.{performs}
 use Rattle.pts_run.proofs.run.push_line.Goals as goal
 
-pub returns-in-Reduce : goal.returns-in-Reduce
-returns-in-Reduce c =
-    let cells = c.as_slice-cells.ensures in let named = c.array_at.ensures.cells in let sum = c.sum_of.ensures in
-    rw c.in-Reduce.is (on_ok_weaker c.push_reduced.result (λ e. (Reduced c.sum_of.result, reduces c.args.script.now c.in-Reduce.array c.in-Reduce.low c.in-Reduce.high c.in-Reduce.init _ _ (cells ∙ named) sum, e)) c.push_reduced.ensures)
+pub returns-in-Some-Sum : goal.returns-in-Some-Sum
+returns-in-Some-Sum c =
+    let cells = c.cells.ensures in
+    let sum = c.sum_between.ensures ∙ ap (λ cs. sum_of c.in-Some-Sum.init (map number_of (slice_range cs c.in-Some-Sum.low c.in-Some-Sum.high))) cells in
+    on_ok_weaker c.push_reduced.result
+    (λ e. (Reduced c.sum_between.result, performs c.args.program.now c.args.statement c.work_of.result _ c.args.store.now (Reduced c.sum_between.result) c.work_of.ensures (rw c.in-Some-Sum.field-0-is at c.in-Some-Sum.is) (sum, refl), e))
+    c.push_reduced.ensures
 
-pub returns-in-Print : goal.returns-in-Print
-returns-in-Print c =
-    let text = c.as_str.ensures in let name = c.array_at-array.ensures.name in let cells = c.as_slice.ensures in let named = c.array_at-array.ensures.cells in
-    rw c.in-Print.is (on_ok_weaker c.push_printed.result (λ e. (Printed c.as_str.result.now c.as_slice.result.now, prints c.args.script.now c.in-Print.array _ _ (text ∙ name) (cells ∙ named), e)) c.push_printed.ensures)
+pub returns-in-Some-Print : goal.returns-in-Some-Print
+returns-in-Some-Print c =
+    on_ok_weaker c.push_printed.result
+    (λ e. (
+      Printed c.name_of.result.now c.cells-in-Some-Print.result.now,
+      performs c.args.program.now c.args.statement c.work_of.result _ c.args.store.now (Printed c.name_of.result.now c.cells-in-Some-Print.result.now) c.work_of.ensures (rw c.in-Some-Print.field-0-is at c.in-Some-Print.is)
+          (c.name_of.ensures, c.cells-in-Some-Print.ensures, refl),
+      e,
+    ))
+    c.push_printed.ensures

@@ -1,0 +1,15 @@
+use Rattle.std.proofs.Common.{Err, ap, ◌∙◌}
+use Rattle.pts_run.specs.declared.words.Command.TheVariants as commands
+use Rattle.pts_run.proofs.Endings.{check_ends, refused}
+use Rattle.pts_run.proofs.answer.check_script.Goals as goal
+
+pub returns-in-Ok-clause-ends : goal.returns-in-Ok-clause-ends
+returns-in-Ok-clause-ends g c = λ bytes reads.
+    let part = c.write_accepted.ensures.part in
+    check_ends bytes c.args.script.now c.in-Ok._program c.write_accepted.result c.status_of.result part.0 _ _ reads c.in-Ok.ensures.accepted c.write_accepted.ensures.whole part.1 part.2 c.status_of.ensures
+
+pub returns-in-Err-clause-ends : goal.returns-in-Err-clause-ends
+returns-in-Err-clause-ends g c = λ bytes reads.
+    c.reject.ensures.ends commands.Check bytes (λ reason is.
+    let rejects = c.accept.ensures.rejected reason (c.in-Err.is ∙ ap Err is) in
+    refused commands.Check bytes c.args.script.now reason (c.args.script.now, reads, rejects) rejects)

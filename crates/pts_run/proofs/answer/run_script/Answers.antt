@@ -1,0 +1,14 @@
+use Rattle.std.proofs.Common.{Err, ap, ◌∙◌}
+use Rattle.pts_run.specs.declared.words.Command.TheVariants as commands
+use Rattle.pts_run.proofs.Endings.{run_ends, refused}
+use Rattle.pts_run.proofs.answer.run_script.Goals as goal
+
+pub returns-in-Ok-clause-ends : goal.returns-in-Ok-clause-ends
+returns-in-Ok-clause-ends g c = λ pool bytes reads.
+    run_ends pool bytes c.args.script.now c.in-Ok.program c.run_program.result c.status_of.result _ _ reads c.in-Ok.ensures.accepted c.run_program.ensures.whole c.run_program.ensures.part c.status_of.ensures
+
+pub returns-in-Err-clause-ends : goal.returns-in-Err-clause-ends
+returns-in-Err-clause-ends g c = λ pool bytes reads.
+    c.reject.ensures.ends (commands.Run pool) bytes (λ reason is.
+    let rejects = c.accept.ensures.rejected reason (c.in-Err.is ∙ ap Err is) in
+    refused (commands.Run pool) bytes c.args.script.now reason (c.args.script.now, reads, rejects) rejects)

@@ -1,9 +1,0 @@
-use Rattle.std.proofs.Common.{◌≤◌}
-use Rattle.pts_run.specs.Writing.{WritesRun}
-use Rattle.pts_run.proofs.run.run_script.Given as goal
-
-abbrev pub invariant-loop-place : goal.invariant-loop-place
-invariant-loop-place g l = record {
-  ran : WritesRun l.script l.place (g.K.Sink.written l.fn.sink) (g.K.Sink.written l.sink);
-  counts : g.K.Sink.faults l.fn.sink ≤ g.K.Sink.faults l.sink;
-}
