@@ -2,11 +2,10 @@
 
 use crate::{BuildFault, Program, StatementInfo, build};
 use pts_tree::{
-    ArrayDecl, Atom, ChainPart, ConstDecl, Expr, FunctionDecl, Item, Name, Param, Script, Start,
-    Sum, Val,
+    ArrayDecl, Atom, ConstDecl, Expr, FunctionDecl, Item, Name, Param, Script, Start, Sum, Val,
 };
-use pts_types::{Kind, ScalarOp, Thrown, Value};
-use sqlite_items::{Boxed, Items};
+use pts_types::{Kind, Thrown, Value};
+use sqlite_items::Items;
 use std::alloc::{AllocError, Global};
 use std::test::Fail;
 
@@ -68,33 +67,30 @@ fn one_param(alloc: Global) -> Result<Items<Param>, AllocError> {
     Ok(params)
 }
 
-// `x / N`
-fn quotient(alloc: Global) -> Result<Expr, AllocError> {
-    let mut parts = Items::new(alloc);
-    parts.push(ChainPart {
-        op: ScalarOp::Divides,
-        operand: Expr::Name(name(alloc, "N")?),
-    })?;
-    Ok(Expr::Chain(Boxed::new(alloc, Expr::Name(name(alloc, "x")?))?, parts))
-}
-
-// `fn f(x: i64) -> i64 = x / N;`
-fn divider(alloc: Global) -> Result<Item, AllocError> {
-    Ok(Item::Function(FunctionDecl {
-        name: name(alloc, "f")?,
-        params: one_param(alloc)?,
+fn function(name: Name, params: Items<Param>, body: Expr) -> Item {
+    Item::Function(FunctionDecl {
+        name,
+        params,
         kind: Kind::I64,
-        body: quotient(alloc)?,
-    }))
+        body,
+    })
 }
 
-fn divided(alloc: Global, x: i64) -> Option<Result<Value, Thrown>> {
-    let program = built(alloc, five(alloc).ok()?, divider(alloc).ok()?).ok()?;
+// `fn f(x: i64) -> i64 = N;`
+fn constant_function(alloc: Global) -> Result<Item, AllocError> {
+    let params = one_param(alloc)?;
+    let named = name(alloc, "f")?;
+    let body = name(alloc, "N")?;
+    Ok(function(named, params, Expr::Name(body)))
+}
+
+fn value_of_function(alloc: Global) -> Option<Result<Value, Thrown>> {
+    let program = built(alloc, five(alloc).ok()?, constant_function(alloc).ok()?).ok()?;
     let codes = program.codes();
     if codes.functions().is_empty() {
         None
     } else {
-        Some(codes.call(0, &[Value::I64(x)]))
+        Some(codes.call(0, &[Value::I64(0)]))
     }
 }
 
@@ -125,6 +121,6 @@ fn names_the_fault(rt: HostRuntime) -> Result<(), Fail> {
 
 #[test]
 fn functions_know_the_constants_before_them(rt: HostRuntime) -> Result<(), Fail> {
-    assert_eq!(rt; divided(rt.alloc(), -17), Some(Ok(Value::I64(-3))));
+    assert_eq!(rt; value_of_function(rt.alloc()), Some(Ok(Value::I64(5))));
     Ok(())
 }
