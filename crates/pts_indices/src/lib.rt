@@ -2,6 +2,8 @@
 #![tactic(auto)]
 
 mod affine;
+#[cfg(test)]
+mod tests;
 mod walks;
 
 pub use affine::{Affine, affine_of};

@@ -1,5 +1,5 @@
 -- The `run` of blocks, statement by statement.
-use Rattle.std.proofs.Common.{◌≡◌, ℕ, Bool, false, List, [], ◌∷◌, ◌++◌, map, refl, ap, ◌∙◌}
+use Rattle.std.proofs.Common.{◌≡◌, ℕ, false, List, [], ◌∷◌, ◌++◌, map, refl, ap, ◌∙◌}
 use Rattle.std.specs.Prelude.{nat_lt, ◌||◌, flat_map, sum}
 use Rattle.std.specs.List.{list_any}
 use Rattle.pts_tree.specs.declared.sum.Cell.{Cell}

@@ -1,5 +1,5 @@
 -- Rules of the builder against the scope that an item stands in.
-use Rattle.std.specs.Prelude.{ℕ, ◌+◌, ◌^◌, nat_lt, Bool, true, false, ◌||◌, length}
+use Rattle.std.specs.Prelude.{ℕ, ◌+◌, ◌^◌, nat_lt, Bool, false, ◌||◌, length}
 use Rattle.std.specs.List.{list_any}
 use Rattle.pts_tree.specs.declared.script.ArrayDecl.{ArrayDecl}
 use Rattle.pts_tree.specs.declared.script.FunctionDecl.{FunctionDecl}

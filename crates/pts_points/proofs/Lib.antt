@@ -1,4 +1,4 @@
-pub mod Chained
+pub mod Clamping
 pub mod Counting
 pub mod Interiors
 pub mod Lengths

@@ -1,3 +1,2 @@
-pub mod Affines
 pub mod Inside
 pub mod Points

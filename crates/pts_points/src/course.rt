@@ -4,9 +4,9 @@ ghost use Rattle.std.specs.Prelude.{◌≡◌, ◌+ℤ◌, ◌*ℤ◌, IfOk};
 ghost use Rattle.pts_rules.specs.Indices as indices;
 ghost use Rattle.pts_points.specs.Points as spec;
 
-use crate::affine::{Affine, affine_of};
 use crate::numbers::{amount, clamp, natural, positions, product, small, step_amount};
 use pts_affine::Line;
+use pts_indices::{Affine, affine_of};
 use pts_rules::Scope;
 use pts_tree::{Cell, Expr, Loop, Name, Range};
 use std::alloc::{AllocError, Global};

@@ -1,7 +1,6 @@
 //! The points at which a checked program touches its arrays, and its calls.
 #![tactic(auto)]
 
-mod affine;
 mod calls;
 mod course;
 mod items;

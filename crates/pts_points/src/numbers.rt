@@ -5,7 +5,8 @@ ghost use Rattle.pts_rules.specs.Counts as counts;
 ghost use Rattle.pts_rules.specs.Known as known;
 ghost use Rattle.pts_points.specs.Points as spec;
 
-use pts_rules::{Scope, sum_value};
+use pts_limits::{number, step_of};
+use pts_rules::Scope;
 use pts_tree::{Name, Sum};
 
 /// In 32 bits: the nearest number.
@@ -47,27 +48,18 @@ pub fn product(a: i64, b: i64) -> i128
     i128::from(a) * i128::from(b)
 }
 
-fn sum_number(scope: &Scope, sum: &Sum) -> i128
-    ensures { result ≡ known.number scope.now sum.now }
-{
-    sum_value(scope, sum).unwrap_or(0)
-}
-
 /// The value of a sum; 0 where it has none.
 pub fn amount(scope: &Scope, sum: &Sum) -> i64
     ensures { result ≡ spec.amount scope.now sum.now }
 {
-    clamp(sum_number(scope, sum))
+    clamp(number(scope, sum))
 }
 
 /// The step as it is written, or 1.
 pub fn step_amount(scope: &Scope, step: &Option<Sum>) -> i64
     ensures { result ≡ spec.clamp (counts.step_of scope.now step.now) }
 {
-    match step {
-        Some(step) => amount(scope, step),
-        None => 1,
-    }
+    clamp(step_of(scope, step))
 }
 
 /// The number of an array; 0 where there is none.

@@ -1,4 +1,3 @@
-pub mod Chained
 pub mod Elements
 pub mod Leaving
 pub mod Reaching

@@ -1,4 +1,3 @@
-pub mod Affines
 pub mod AtScope
 pub mod Firsts
 pub mod Walks

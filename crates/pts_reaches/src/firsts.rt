@@ -1,11 +1,11 @@
 //! First positions past the cells of an array.
 
 ghost use Rattle.std.specs.Prelude.{◌≡◌, ◌≤◌, ◌^◌, ◌≤ℤ◌, ◌<ℤ◌, ◌*ℤ◌, nat_abs, pos};
-ghost use Rattle.pts_reaches.specs.Affines.{line_of_index};
+ghost use Rattle.pts_indices.specs.Affines.{line_of_index};
 ghost use Rattle.pts_reaches.specs.Firsts as spec;
 ghost use Rattle.pts_rules.specs.Indices as rules;
 
-use crate::affine::Affine;
+use pts_indices::Affine;
 
 /// The numbers that an index takes: `first + p * step` at each of n positions p.
 #[derive(Clone, Copy, Debug, PartialEq, Eq)]

@@ -1,7 +1,6 @@
 //! The cells that an item reaches, and the first position at which one is not in its array.
 #![tactic(auto)]
 
-mod affine;
 mod firsts;
 mod items;
 mod places;

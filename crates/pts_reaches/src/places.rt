@@ -6,9 +6,9 @@ ghost use Rattle.pts_reaches.specs.Firsts.{soonest};
 ghost use Rattle.pts_reaches.specs.Walks as spec;
 ghost use Rattle.pts_rules.specs.Indices as rules;
 
-use crate::affine::affine_of;
 use crate::firsts::{Course, index_first, sooner};
 use crate::ranges::length_of;
+use pts_indices::affine_of;
 use pts_rules::Scope;
 use pts_tree::{BodyStmt, ChainPart, Expr, Name, Place};
 

@@ -1,10 +1,10 @@
 //! Sums as single numbers, and what they measure.
 
 ghost use Rattle.std.specs.Prelude.{◌≡◌, ◌-◌, ◌^◌, IfOk, min, nat_abs};
-ghost use Rattle.pts_rules.specs.Known.{number};
 ghost use Rattle.pts_resolve.specs.Resolved as spec;
 
-use pts_rules::{Scope, sum_value};
+use pts_limits::number;
+use pts_rules::Scope;
 use pts_tree::{Atom, Cell, Name, Range, Sum, Val};
 use sqlite_items::Items;
 use std::alloc::{AllocError, Global};
@@ -14,13 +14,6 @@ pub fn copy_name(alloc: Global, name: &Name) -> Result<Name, AllocError>
     ensures { IfOk result (λ y. y ≡ name.now) }
 {
     Ok(Name::new(name.as_str().to_string(alloc)?))
-}
-
-// The value of a sum; 0 where it has none.
-fn sum_number(scope: &Scope, sum: &Sum) -> i128
-    ensures { result ≡ number scope.now sum.now }
-{
-    sum_value(scope, sum).unwrap_or(0)
 }
 
 // Without its sign, in 64 bits.
@@ -39,7 +32,7 @@ fn magnitude(z: i128) -> u64
 pub fn resolve_sum(alloc: Global, scope: &Scope, sum: &Sum) -> Sum
     ensures { result ≡ spec.resolved_sum scope.now sum.now }
 {
-    let z = sum_number(scope, sum);
+    let z = number(scope, sum);
     Sum {
         negative: z < 0,
         first: Atom::Number(magnitude(z)),

@@ -9,7 +9,8 @@ ghost use Rattle.pts_rules.specs.Mistyped.{iota_cell, iota_right, start_right};
 ghost use Rattle.pts_starts.specs.Starts as spec;
 
 use crate::values::{value_of_val, value_with};
-use pts_rules::{Scope, sum_value};
+use pts_limits::number;
+use pts_rules::Scope;
 use pts_tree::{Start, Sum, Val};
 use pts_types::{Kind, NoMemory, Value};
 use sqlite_items::Items;
@@ -125,13 +126,6 @@ fn iota_cells(
             length,
         ),
     }
-}
-
-// A sum that is right here has a number.
-fn number(scope: &Scope, sum: &Sum) -> i128
-    ensures { result ≡ known.number scope.now sum.now }
-{
-    sum_value(scope, sum).unwrap_or(0)
 }
 
 #[tactic(auto, using(crate::proofs::Cells::number_holds))]

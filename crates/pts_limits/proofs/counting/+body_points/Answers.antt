@@ -1,4 +1,4 @@
-use Rattle.std.proofs.Common.{◌≡◌, ℕ, ◌+◌, List, map, Option, ap, ◌∙◌, arith}
+use Rattle.std.proofs.Common.{◌+◌, List, map, Option, ap, ◌∙◌, arith}
 use Rattle.std.specs.Prelude.{option_map, sum}
 use Rattle.pts_tree.specs.declared.loops.BodyStmt.{BodyStmt}
 use Rattle.pts_rules.specs.Counts.{body_points, else_points, reads}

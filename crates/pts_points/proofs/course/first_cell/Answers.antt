@@ -1,6 +1,6 @@
 use Rattle.std.proofs.Common.{rules, ◌+ℤ◌, ◌*ℤ◌, ◌∙◌, arith, w64}
 use Rattle.std.proofs.lemmas.Int.{to_z-of_z, ints}
-use Rattle.pts_points.proofs.Chained.{wide, clamp_at}
+use Rattle.pts_points.proofs.Clamping.{wide, clamp_at}
 use Rattle.pts_points.proofs.course.first_cell.Goals as goal
 
 pub returns : goal.returns
