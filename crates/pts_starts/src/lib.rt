@@ -2,6 +2,8 @@
 #![tactic(auto)]
 
 mod starts;
+#[cfg(test)]
+mod tests;
 mod values;
 
 pub use starts::start_cells;
