@@ -2,8 +2,6 @@
 #![tactic(auto)]
 
 mod affine;
-#[cfg(test)]
-mod tests;
 mod walks;
 
 pub use affine::{Affine, affine_of};

@@ -9,8 +9,6 @@ mod numbers;
 mod sizes;
 mod statements;
 mod steps;
-#[cfg(test)]
-mod tests;
 
 pub use counting::points;
 pub use depths::depth_of;
