@@ -8,6 +8,8 @@ mod numbers;
 mod point;
 mod reads;
 mod statements;
+#[cfg(test)]
+mod tests;
 mod walk;
 
 pub use items::add_points;

@@ -5,5 +5,7 @@ mod firsts;
 mod items;
 mod places;
 mod ranges;
+#[cfg(test)]
+mod tests;
 
 pub use items::first_out;

@@ -7,6 +7,8 @@ mod expressions;
 mod infos;
 mod loops;
 mod sums;
+#[cfg(test)]
+mod tests;
 mod texts;
 
 pub use blocks::resolve_block;
