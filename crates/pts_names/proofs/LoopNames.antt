@@ -5,7 +5,7 @@ use Rattle.std.proofs.lemmas.List.Concat.{flat_map_single}
 use Rattle.pts_tree.specs.declared.loops.Loop.{Loop}
 use Rattle.pts_tree.specs.declared.loops.BodyStmt.{BodyStmt}
 use Rattle.pts_rules.specs.Known.{Scope}
-use Rattle.pts_rules.specs.Parts.{uses, free, without, sum_names, names_of, clause_names, head_locals, loop_names}
+use Rattle.pts_rules.specs.Parts.{uses, free, sum_names, names_of, clause_names, head_locals, loop_names}
 use Rattle.pts_names.specs.Entered.{head_names, body_names, misses, entered}
 use Rattle.pts_names.proofs.Missing.{misses_both}
 use Rattle.pts_names.proofs.Entering.{misses_without}

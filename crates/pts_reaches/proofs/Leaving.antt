@@ -1,9 +1,9 @@
 -- Where one reach is first past its array.
-use Rattle.std.proofs.Common.{◌≡◌, ℕ, zero, suc, ◌+◌, ◌-◌, ◌*◌, ◌/◌, ◌<◌, ◌≤◌, Bool, true, false, not, Option, Some, None, ℤ, pos, negsuc, ◌+ℤ◌, ◌-ℤ◌, ◌*ℤ◌, inl, inr, refl, ap, sym, subst, ◌∙◌, arith}
-use Rattle.std.specs.Prelude.{◌&&◌, ◌==◌, ◌≤ℤ◌, ◌<ℤ◌, ◌⊎◌, nat_abs, nat_lt, int_le, int_lt, if◌then◌else◌, IsTrue}
+use Rattle.std.proofs.Common.{◌≡◌, ℕ, zero, suc, ◌+◌, ◌-◌, ◌*◌, ◌/◌, ◌<◌, ◌≤◌, Bool, true, false, not, Option, Some, None, ℤ, pos, negsuc, ◌+ℤ◌, ◌-ℤ◌, ◌*ℤ◌, inl, inr, refl, ap, sym, ◌∙◌, arith}
+use Rattle.std.specs.Prelude.{◌&&◌, ◌==◌, ◌≤ℤ◌, ◌<ℤ◌, nat_abs, nat_lt, int_le, int_lt, if◌then◌else◌, IsTrue}
 use Rattle.std.proofs.lemmas.Int.{ints}
 use Rattle.std.proofs.lemmas.Nat.{div_below, div-add-mod', mod_below}
-use Rattle.std.proofs.lemmas.Bool.{cases_lt, lt-ltb, le-ltb, le-leb, ltb-true, ltb-false, true≢false, false≢true, and_parts, and_from, eq-eqb, eqb-true, not-false}
+use Rattle.std.proofs.lemmas.Bool.{cases_lt, lt-ltb, le-ltb, le-leb, ltb-true, ltb-false, false≢true, and_parts, and_from, eq-eqb, eqb-true}
 use Rattle.pts_affine.specs.declared.line.Line.{Line}
 use Rattle.pts_affine.specs.Lines.{cell}
 use Rattle.pts_rules.specs.Known.{natural}

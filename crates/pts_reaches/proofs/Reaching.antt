@@ -1,17 +1,16 @@
 -- The first positions of statements by those of their parts.
-use Rattle.std.proofs.Common.{◌≡◌, ℕ, Option, Some, None, List, [], ◌∷◌, ◌++◌, refl, ap, sym, ◌∙◌}
-use Rattle.std.specs.Prelude.{flat_map, ℤ, pos}
+use Rattle.std.proofs.Common.{◌≡◌, ℕ, Option, Some, None, List, ◌++◌, ap, sym, ◌∙◌}
+use Rattle.std.specs.Prelude.{flat_map, pos}
 use Rattle.pts_tree.specs.declared.sum.Cell.{Cell}
 use Rattle.pts_tree.specs.declared.call.Call as call
 use Rattle.pts_tree.specs.declared.expr.Expr.{Expr}
 use Rattle.pts_tree.specs.declared.expr.Place.{Place}
 use Rattle.pts_tree.specs.declared.loops.Loop as loops
 use Rattle.pts_tree.specs.declared.loops.BodyStmt.{BodyStmt}
-use Rattle.pts_tree.specs.declared.script.Item.{Item}
-use Rattle.pts_rules.specs.Parts.{Simple, Throw, Assign, Call, Loop, Name, statements}
+use Rattle.pts_rules.specs.Parts.{Assign, Call, Loop, Name}
 use Rattle.pts_rules.specs.Known.{Scope, number}
 use Rattle.pts_rules.specs.Counts as counts
-use Rattle.pts_rules.specs.Indices.{Affine, Reach, affine_of, cell_reach, clause_reach, elements, line_of, loop_line, place_reach, places, range_reach, reach_of, reaches}
+use Rattle.pts_rules.specs.Indices.{Reach, cell_reach, clause_reach, elements, line_of, loop_line, place_reach, places, range_reach, reach_of}
 use Rattle.pts_reaches.specs.declared.firsts.Course.{Course}
 use Rattle.pts_reaches.specs.Firsts.{first_leaving, sooner, soonest}
 use Rattle.pts_reaches.specs.Walks.{clause_first, first_in, first_of, place_first}

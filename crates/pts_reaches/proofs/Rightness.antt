@@ -1,7 +1,7 @@
 -- Numbers of ranges, cells and loops that are right.
-use Rattle.std.proofs.Common.{◌≡◌, ℕ, ◌+◌, ◌-◌, ◌<◌, ◌≤◌, ◌^◌, Bool, true, false, Option, Some, None, ℤ, pos, refl, ap, sym, ◌∙◌, arith}
+use Rattle.std.proofs.Common.{◌≡◌, ℕ, ◌+◌, ◌-◌, ◌<◌, ◌≤◌, ◌^◌, Bool, true, false, Option, Some, None, ℤ, pos, refl, arith}
 use Rattle.std.specs.List.{list_all}
-use Rattle.std.specs.Prelude.{map, if◌then◌else◌, nat_abs, ◌/◌, ◌-ℤ◌, ◌&&◌, ◌≤ℤ◌, IsTrue, int_le, is_some}
+use Rattle.std.specs.Prelude.{map, if◌then◌else◌, nat_abs, ◌/◌, ◌-ℤ◌, ◌&&◌, ◌≤ℤ◌, int_le, is_some}
 use Rattle.std.proofs.lemmas.Bool.{and_parts, false≢true}
 use Rattle.std.proofs.lemmas.Int.{ints}
 use Rattle.pts_types.specs.Arithmetic.{least_i64, greatest_i64}

@@ -1,5 +1,5 @@
 -- How large the statements of blocks are: a part is smaller than the whole.
-use Rattle.std.proofs.Common.{◌≡◌, ℕ, zero, suc, ◌+◌, ◌*◌, ◌<◌, ◌≤◌, List, [], ◌∷◌, length, map, get_or, refl, sym, ap, ◌∙◌, arith}
+use Rattle.std.proofs.Common.{◌≡◌, ℕ, zero, suc, ◌+◌, ◌<◌, ◌≤◌, List, [], ◌∷◌, length, map, get_or, ap, arith}
 use Rattle.pts_tree.specs.declared.block.Block.{Block}
 use Rattle.pts_tree.specs.declared.block.TaskStmt.{TaskStmt}
 use Rattle.pts_tree.specs.declared.block.TaskStmt.TheOpen.{TaskStmt-F}

@@ -1,7 +1,7 @@
-use Rattle.std.proofs.Common.{◌≡◌, rules, ap, arith}
+use Rattle.std.proofs.Common.{ap, arith}
 use Rattle.pts_reaches.proofs.Soonest.{next_soonest}
 use Rattle.pts_reaches.proofs.Statements.{run_holds, block_holds, body_holds, element_holds}
-use Rattle.pts_reaches.proofs.TaskWeights.{weight, block_weight, weights, weight-Run, weight-Block, weight-body, weight_below}
+use Rattle.pts_reaches.proofs.TaskWeights.{weight, weights, weight-Run, weight-Block, weight-body, weight_below}
 use Rattle.pts_rules.specs.Mistyped.{statement_right}
 use Rattle.pts_reaches.proofs.items.+task_first.Goals as goal
 

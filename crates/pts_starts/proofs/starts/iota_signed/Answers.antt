@@ -1,4 +1,4 @@
-use Rattle.std.proofs.Common.{◌≡◌, rules, ◌∙◌, w64}
+use Rattle.std.proofs.Common.{rules, ◌∙◌, w64}
 use Rattle.std.proofs.lemmas.Int.{to_z-of_z}
 use Rattle.pts_starts.proofs.Cells.{iota_kept}
 use Rattle.pts_starts.proofs.starts.iota_signed.Goals as goal
