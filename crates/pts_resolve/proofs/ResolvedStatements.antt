@@ -1,5 +1,5 @@
 -- Statements without constants, form by form.
-use Rattle.std.proofs.Common.{◌≡◌, ℕ, Option, Some, None, option_map, List, map, sym, ap, ◌∙◌}
+use Rattle.std.proofs.Common.{◌≡◌, ℕ, Option, None, option_map, List, map, sym, ap, ◌∙◌}
 use Rattle.pts_types.specs.declared.operation.ScalarOp.{ScalarOp}
 use Rattle.pts_tree.specs.declared.sum.Cell.{Cell}
 use Rattle.pts_tree.specs.declared.call.Call.{Call}

@@ -1,5 +1,5 @@
 -- Trees without constants: a sum is one number, and a constant in an expression is the number that it stands for.
-use Rattle.std.specs.Prelude.{ℕ, ◌-◌, ◌^◌, min, if◌then◌else◌, option_map, Option, Some, None, List, [], ◌∷◌, map, ℤ, pos, neg_ℤ, nat_abs, int_lt}
+use Rattle.std.specs.Prelude.{◌-◌, ◌^◌, min, if◌then◌else◌, option_map, Option, Some, None, List, [], map, ℤ, pos, neg_ℤ, nat_abs, int_lt}
 use Rattle.pts_tree.specs.declared.sum.Atom.TheVariants as atoms
 use Rattle.pts_tree.specs.declared.sum.Sum.{Sum}
 use Rattle.pts_tree.specs.declared.sum.Val.{Val}

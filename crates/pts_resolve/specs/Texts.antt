@@ -3,7 +3,7 @@ use Rattle.std.specs.Prelude.{List, [], ◌∷◌, flat_map}
 use Rattle.pts_tree.specs.declared.block.TaskStmt.{TaskStmt}
 use Rattle.pts_tree.specs.declared.block.TaskStmt.TheFolds.{fold-TaskStmt}
 use Rattle.pts_tree.specs.declared.script.Item.{Item}
-use Rattle.pts_rules.specs.Parts.{Simple, Throw, Assign, Call, Loop, simple_step, statements}
+use Rattle.pts_rules.specs.Parts.{Simple, Call, Loop, simple_step, statements}
 use Rattle.pts_rules.specs.Known.{Scope}
 use Rattle.pts_resolve.specs.declared.texts.CallText.{CallText}
 use Rattle.pts_resolve.specs.declared.texts.CallText.TheVariants as texts

@@ -14,5 +14,5 @@ pub use calls::resolve_call;
 pub use expressions::resolve_expr;
 pub use infos::{BlockInfo, add_blocks};
 pub use loops::resolve_loop;
-pub use sums::resolve_sum;
+pub use sums::{copy_name, resolve_sum};
 pub use texts::{CallText, add_texts};
