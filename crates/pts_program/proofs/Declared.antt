@@ -1,7 +1,7 @@
 -- One item more: what it leaves to those behind it.
-use Rattle.std.proofs.Common.{◌≡◌, ℕ, ◌+◌, ◌<◌, ◌≤◌, ◌^◌, Bool, true, false, IsTrue, List, [], ◌∷◌, ◌++◌, length, map, refl, sym, ap, ◌∙◌, subst, arith}
-use Rattle.std.specs.Prelude.{count_by, nat_lt, if◌then◌else◌, cond, sum, ◌&&◌}
-use Rattle.std.proofs.lemmas.Bool.{and_parts, or_parts}
+use Rattle.std.proofs.Common.{◌≡◌, ℕ, ◌+◌, ◌≤◌, ◌^◌, false, List, [], ◌∷◌, ◌++◌, length, map, refl, sym, ap, ◌∙◌, arith}
+use Rattle.std.specs.Prelude.{nat_lt, cond}
+use Rattle.std.proofs.lemmas.Bool.{or_parts}
 use Rattle.std.proofs.lemmas.Bool.Decides.{nat_tests}
 use Rattle.std.proofs.lemmas.List.Sums.{fold_push, sum_by-cons, sum_by_push}
 use Rattle.pts_tree.specs.declared.script.FunctionDecl.{FunctionDecl}
@@ -10,12 +10,11 @@ use Rattle.pts_tree.specs.declared.script.Item.TheVariants as items
 use Rattle.pts_tree.specs.declared.script.Param.{Param}
 use Rattle.pts_code.specs.declared.function.FunctionInfo.{FunctionInfo}
 use Rattle.pts_rules.specs.Counts.{size_of}
-use Rattle.pts_rules.specs.Known.{Entry, Scope, natural, number, sum_is, is_place, lies_in}
+use Rattle.pts_rules.specs.Known.{Entry, Scope, number}
 use Rattle.pts_rules.specs.Limits.{cells, cells_of, is_statement}
-use Rattle.pts_rules.specs.Mistyped.{item_right, start_right}
 use Rattle.pts_rules.specs.declared.meaning.Meaning.TheVariants.{Constant, Array, Function}
 use Rattle.pts_rules.specs.Scopes.{after, known, signature}
-use Rattle.pts_limits.specs.Rules.{large, too_deep, too_many}
+use Rattle.pts_limits.specs.Rules.{large, too_many}
 use Rattle.pts_program.specs.declared.standing.Standing.{Standing}
 use Rattle.pts_program.specs.Lists.{functions_of}
 use Rattle.pts_program.specs.Standings.{cells_in, is_large_function, IsAcceptable, IsDeclarable, IsStanding}

@@ -1,6 +1,7 @@
 -- What the rules say of small scripts at their edges.
-use Rattle.std.proofs.Common.{◌≡◌, ℕ, ◌-◌, ◌^◌, true, false, List, [], ◌∷◌, ◌++◌, refl, ap, ◌∙◌, Option, Some, None, pos, codes, neg_ℤ, ◌+◌}
-use Rattle.std.specs.Prelude.{flat_map}
+use Rattle.std.proofs.Common.{◌≡◌, ℕ, ◌-◌, ◌^◌, true, false, List, [], ◌∷◌, ◌++◌, refl, ap, ◌∙◌, Option, Some, None, pos, codes, neg_ℤ, ◌+◌, sym}
+use Rattle.std.specs.Prelude.{flat_map, ◌&&◌}
+use Rattle.std.proofs.lemmas.Bool.{false≢true}
 use Rattle.std.specs.List.{list_any}
 use Rattle.pts_types.specs.declared.value.Kind.TheVariants as kinds
 use Rattle.pts_types.specs.declared.operation.ScalarOp.TheVariants as ops
@@ -25,7 +26,7 @@ use Rattle.pts_tree.specs.declared.expr.Expr.TheVariants as e
 use Rattle.pts_tree.specs.declared.loops.Loop as loops
 use Rattle.pts_tree.specs.declared.loops.BodyStmt.{BodyStmt}
 use Rattle.pts_tree.specs.declared.loops.BodyStmt.TheVariants as b
-use Rattle.pts_rules.specs.Parts.{Loop, expr_names}
+use Rattle.pts_rules.specs.Parts.{Name, Loop, expr_names}
 use Rattle.pts_rules.specs.Names.{is_unknown, is_twice}
 use Rattle.pts_rules.specs.Kinds.{typing, typing_step, fits}
 use Rattle.pts_rules.specs.Mistyped.{is_mistyped}
@@ -42,6 +43,9 @@ use Rattle.pts_rules.proofs.Typings.{typing-Number, typing-Name, typing-Minus, t
 use Rattle.pts_rules.proofs.Sizes.{size-Number, size-Name, size-Chain}
 use Rattle.pts_rules.proofs.Bodies.{places-Assign}
 use Rattle.pts_rules.proofs.Elements.{elements-Name, elements-Number, elements-Element, elements-Chain}
+use Rattle.pts_code.specs.declared.function.FunctionInfo.{FunctionInfo}
+use Rattle.pts_program.specs.Callings.{CallEarlier, is_one_of, uses_only}
+use Rattle.pts_program.proofs.UseForms.{using-Call, using-Name}
 
 -- the sum of one number
 abbrev pub number : ℕ → Sum
@@ -328,3 +332,30 @@ clause-out = refl
 -- the index is no name of the loop's head
 pub head-unknown : is_unknown [] (empty_loop (number 0) (record { negative = false; first = atoms.Name (codes "k"); rest = [] }) None []) ≡ true
 head-unknown = refl
+
+-- ---- functions that call others
+
+-- fn NAME(x: u64) -> u64 = CALLED(x);
+abbrev calling : Name → Name → FunctionInfo
+calling name called =
+    record {
+      name = name;
+      params = record { name = codes "x"; kind = kinds.U64 } ∷ [];
+      kind = kinds.U64;
+      body = e.Call called (e.Name (codes "x") ∷ []);
+    }
+
+uses-call : (functions : List Name) (called : Name) → uses_only (codes "x" ∷ []) functions (e.Call called (e.Name (codes "x") ∷ [])) ≡ (is_one_of functions called && true)
+uses-call functions called =
+    using-Call (codes "x" ∷ []) functions called (e.Name (codes "x") ∷ [])
+    ∙ ap (λ x. is_one_of functions called && (x && true)) (using-Name (codes "x" ∷ []) functions (codes "x"))
+
+-- a function after the one that it calls, in this order alone
+in_order : CallEarlier (codes "f" ∷ []) (calling (codes "g") (codes "f") ∷ calling (codes "h") (codes "g") ∷ [])
+in_order = (uses-call (codes "f" ∷ []) (codes "f"), (uses-call (codes "f" ∷ codes "g" ∷ []) (codes "g"), tt))
+
+out_of_order : ¬ CallEarlier (codes "f" ∷ []) (calling (codes "h") (codes "g") ∷ calling (codes "g") (codes "f") ∷ [])
+out_of_order h = false≢true (sym (uses-call (codes "f" ∷ []) (codes "g")) ∙ h.0)
+
+calls_none_before : ¬ CallEarlier [] (calling (codes "f") (codes "f") ∷ [])
+calls_none_before h = false≢true (sym (uses-call [] (codes "f")) ∙ h.0)

@@ -1,11 +1,10 @@
 -- What the tests of an item find is its verdict.
 use Rattle.std.proofs.Common.{◌≡◌, ℕ, suc, ◌+◌, ◌<◌, ◌≤◌, ◌↔◌, ◌⊎◌, inl, inr, Bool, true, false, IsTrue, Option, Some, None, List, [], ◌∷◌, length, refl, sym, ap, ◌∙◌, subst, arith}
 use Rattle.std.specs.Option.{option_or}
-use Rattle.std.specs.Prelude.{if◌then◌else◌, not, ⊤, Ok, Err, Result, IfOk, IfErr}
+use Rattle.std.specs.Prelude.{if◌then◌else◌, not, ⊤, Ok, Err}
 use Rattle.std.proofs.lemmas.Bool.{false≢true}
 use Rattle.pts_tree.specs.declared.script.Item.{Item}
 use Rattle.pts_rules.specs.Known.{Scope}
-use Rattle.pts_rules.specs.Indices.{is_out_at}
 use Rattle.pts_rules.specs.Limits.{is_too_deep, is_too_many}
 use Rattle.pts_rules.specs.Mistyped.{item_right}
 use Rattle.pts_rules.specs.Names.{is_twice, is_unknown}
@@ -15,16 +14,15 @@ use Rattle.pts_names.proofs.Globals.{unknown_is, twice_is}
 use Rattle.pts_names.specs.Scoped.{declares_twice, uses_unknown}
 use Rattle.pts_limits.specs.Rules.{bad_identity, bad_step, backward_range, lengths_differ, too_deep, too_many}
 use Rattle.pts_limits.proofs.Scoped.{deep_is, many_is, bad_step_is, backward_range_is, lengths_differ_is, bad_identity_is}
-use Rattle.pts_program.specs.declared.fault.BuildFault.{BuildFault}
 use Rattle.pts_program.specs.declared.fault.BuildFault.TheVariants as faults
 use Rattle.pts_program.specs.declared.fault.Rule.{Rule}
 use Rattle.pts_program.specs.declared.fault.Rule.TheVariants.{Unknown, Twice, Mistyped, TooDeep, TooMany, BadStep, BackwardRange, LengthsDiffer, BadIdentity, NotAffine, OutOfRange}
 use Rattle.pts_program.specs.declared.standing.Standing.{Standing}
-use Rattle.pts_program.specs.Faults.{place_of, Breaks, IsFirstOut, IsPosition, fault_of}
+use Rattle.pts_program.specs.Faults.{place_of, Breaks, IsPosition, fault_of}
 use Rattle.pts_program.specs.Findings.{first_true, first_broken, name_tests, limit_tests, step_tests}
 use Rattle.pts_reaches.specs.AtScope.{out_at}
 use Rattle.pts_program.specs.Standings.{IsAcceptable, IsStanding}
-use Rattle.pts_program.specs.Verdicts.{IsClear, IsItemFault, IsVerdict}
+use Rattle.pts_program.specs.Verdicts.{IsClear, IsVerdict}
 use Rattle.pts_program.proofs.Verdicts.{clear_none, clear_one, clear_both}
 
 module _ (before : List Item) (x : Item) where

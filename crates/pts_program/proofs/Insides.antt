@@ -1,5 +1,5 @@
 -- Every point of a program is in its array.
-use Rattle.std.proofs.Common.{IsTrue, ◌≡◌, ℕ, zero, suc, ◌+◌, ◌-◌, ◌^◌, ◌<◌, ◌≤◌, true, false, ℤ, pos, negsuc, Some, None, List, [], ◌∷◌, ◌++◌, map, length, take, drop, get_or, slice_get, refl, sym, ap, subst, ◌∙◌, arith, length-append, append-nil, append_assoc}
+use Rattle.std.proofs.Common.{IsTrue, ◌≡◌, ℕ, zero, suc, ◌+◌, ◌^◌, ◌<◌, ◌≤◌, true, false, ℤ, pos, negsuc, Some, None, List, [], ◌∷◌, ◌++◌, map, length, take, get_or, slice_get, refl, sym, ap, subst, ◌∙◌, arith, length-append, append-nil, append_assoc}
 use Rattle.std.specs.Prelude.{Option, ◌&&◌, ◌≤ℤ◌, ◌<ℤ◌, not, nat_lt, All}
 use Rattle.std.specs.Ordering.{int_eq}
 use Rattle.std.proofs.Math.Seq.{take-append_seam}
@@ -200,7 +200,7 @@ inside_more before x lists clean room h =
 -- ---- all items
 
 -- each of these items breaks no rule behind those before it
-abbrev AreClean : List Item → List Item → Type 0
+abbrev pub AreClean : List Item → List Item → Type 0
 AreClean before [] = Unit {0}
 AreClean before (x ∷ rest) = IsClean before x × AreClean (before ++ x ∷ []) rest
 
@@ -208,7 +208,7 @@ item_between : (before : List Item) (x : Item) (rest : List Item) → slice_get 
 item_between [] x rest = refl
 item_between (y ∷ before) x rest = item_between before x rest
 
-clean_from : (script : Script) (before rest : List Item) → script.items ≡ before ++ rest → IsScriptSound script → AreClean before rest
+pub clean_from : (script : Script) (before rest : List Item) → script.items ≡ before ++ rest → IsScriptSound script → AreClean before rest
 clean_from script before [] is sound = tt
 clean_from script before (x ∷ rest) is sound = (
   λ rule broken.

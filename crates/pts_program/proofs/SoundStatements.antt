@@ -1,6 +1,6 @@
 -- The statements of an item that breaks no rule.
 use Rattle.std.proofs.Common.{◌≡◌, ℕ, ◌+◌, Bool, true, false, IsTrue, List, [], ◌∷◌, refl, sym, ◌∙◌}
-use Rattle.std.specs.Prelude.{not, flat_map, length, nat_lt, count_by, ◌||◌, All}
+use Rattle.std.specs.Prelude.{not, flat_map, nat_lt, count_by, ◌||◌, All}
 use Rattle.std.specs.List.{list_all, list_any}
 use Rattle.std.proofs.lemmas.Bool.{and_parts, or_parts}
 use Rattle.std.proofs.lemmas.List.Elements.{All-nil, All-cons}
@@ -12,7 +12,7 @@ use Rattle.pts_rules.specs.Known.{Scope}
 use Rattle.pts_rules.specs.Scopes.{known}
 use Rattle.pts_rules.specs.Counts.{runs}
 use Rattle.pts_rules.specs.Indices.{leaves, reaches}
-use Rattle.pts_rules.specs.Limits.{has_many, is_long, is_statement, is_too_many, points}
+use Rattle.pts_rules.specs.Limits.{has_many, is_long, is_statement, points}
 use Rattle.pts_rules.specs.Mistyped.{statement_right}
 use Rattle.pts_rules.specs.Steps.{goes_backward}
 use Rattle.pts_points.specs.Inside.{IsSound}

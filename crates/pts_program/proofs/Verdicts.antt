@@ -1,9 +1,8 @@
 -- Verdicts on some of the rules make one on all of them.
-use Rattle.std.proofs.Common.{◌≡◌, ℕ, ◌+◌, ◌<◌, ◌≤◌, ◌⊎◌, inl, inr, Bool, true, false, IsTrue, List, refl, sym, ap, ◌∙◌, subst, arith}
+use Rattle.std.proofs.Common.{◌≡◌, ℕ, ◌+◌, ◌≤◌, inl, inr, Bool, false, IsTrue, List, sym, ◌∙◌, subst, arith}
 use Rattle.std.proofs.lemmas.Bool.{cases_lt, false≢true}
 use Rattle.pts_tree.specs.declared.script.Item.{Item}
 use Rattle.pts_program.specs.declared.fault.BuildFault.{BuildFault}
-use Rattle.pts_program.specs.declared.fault.BuildFault.TheVariants as faults
 use Rattle.pts_program.specs.declared.fault.Rule.{Rule}
 use Rattle.pts_program.specs.Faults.{place_of, Breaks, IsPosition, fault_of}
 use Rattle.pts_program.specs.Verdicts.{IsClear, IsItemFault}

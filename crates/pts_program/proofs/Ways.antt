@@ -1,17 +1,16 @@
 -- The builder on its way through a script.
-use Rattle.std.proofs.Common.{◌≡◌, ℕ, zero, suc, ◌+◌, ◌-◌, ◌^◌, ◌<◌, ◌≤◌, ◌⊎◌, inl, inr, List, [], ◌∷◌, ◌++◌, IsSomeAnd, Option, Some, None, length, take, drop, get_or, slice_get, refl, sym, ap, ◌∙◌, subst, arith}
+use Rattle.std.proofs.Common.{◌≡◌, ℕ, zero, suc, ◌+◌, ◌^◌, ◌<◌, ◌≤◌, inl, inr, List, [], ◌∷◌, ◌++◌, Some, length, take, drop, get_or, slice_get, refl, sym, ap, ◌∙◌, subst, arith}
 use Rattle.std.proofs.lemmas.Bool.{cases_lt}
-use Rattle.std.proofs.lemmas.List.{drop_more, drop_all, length-take}
+use Rattle.std.proofs.lemmas.List.{drop_more, drop_all}
 use Rattle.std.proofs.lemmas.Option.{slice_get-get_or}
 use Rattle.pts_tree.specs.declared.script.Item.{Item}
 use Rattle.pts_tree.specs.declared.script.Script.{Script}
-use Rattle.pts_rules.specs.Scopes.{known}
 use Rattle.pts_program.specs.declared.builder.Builder.{Builder}
 use Rattle.pts_program.specs.declared.fault.BuildFault.{BuildFault}
 use Rattle.pts_program.specs.declared.fault.Rule.{Rule}
 use Rattle.pts_program.specs.declared.lists.Lists.{Lists}
 use Rattle.pts_program.specs.Building.{HasRoom, IsUnderWay}
-use Rattle.pts_program.specs.Faults.{place_of, Breaks, BreaksAt, IsFaultAt, IsPosition, IsSound, fault_of}
+use Rattle.pts_program.specs.Faults.{BreaksAt, IsFaultAt, IsPosition, IsSound, fault_of}
 use Rattle.pts_program.specs.Lists.{lists_of, no_lists, with_item, with_items, IsProgram}
 use Rattle.pts_program.specs.Standings.{IsStanding}
 use Rattle.pts_program.specs.Verdicts.{IsClear, IsItemFault}

@@ -1,5 +1,6 @@
 pub mod Faults
 pub mod Building
+pub mod Callings
 pub mod Findings
 pub mod Lists
 pub mod Ranges

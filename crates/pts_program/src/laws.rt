@@ -1,9 +1,10 @@
 //! What the rules say of every script.
 
-ghost use Rattle.std.specs.Prelude.{◌≡◌, ◌⊎◌, ℕ, All};
+ghost use Rattle.std.specs.Prelude.{◌≡◌, ◌⊎◌, ℕ, [], All};
 ghost use Rattle.pts_tree.specs.declared.script.Script.{Script};
 ghost use Rattle.pts_program.specs.declared.fault.BuildFault.{BuildFault};
 ghost use Rattle.pts_program.specs.declared.lists.Lists.{Lists};
+ghost use Rattle.pts_program.specs.Callings.{CallEarlier};
 ghost use Rattle.pts_program.specs.Faults.{IsFaultAt, IsSound};
 ghost use Rattle.pts_program.specs.Lists.{IsProgram};
 ghost use Rattle.pts_program.specs.Ranges.{IsInRange, IsOfKind};
@@ -28,4 +29,9 @@ pub fn every_index_in_range()
 /// Every cell of a program has the kind of its array at the start.
 pub fn every_cell_has_its_kind()
     ensures { (lists : Lists) → IsProgram lists → All IsOfKind lists.arrays }
+{}
+
+/// Each name in the body of a function is that of a parameter or, where it is called, of a function before it.
+pub fn functions_call_earlier_ones()
+    ensures { (lists : Lists) → IsProgram lists → CallEarlier [] lists.functions }
 {}

@@ -10,13 +10,14 @@ mod lengths;
 mod lists;
 mod program;
 mod standing;
-#[cfg(test)]
-mod tests;
 
 pub use builder::build;
 pub use fault::BuildFault;
 pub use info::{ArrayInfo, StatementInfo};
-pub use laws::{a_fault_or_none, every_cell_has_its_kind, every_index_in_range, one_fault};
+pub use laws::{
+    a_fault_or_none, every_cell_has_its_kind, every_index_in_range, functions_call_earlier_ones,
+    one_fault,
+};
 pub use program::Program;
 pub use pts_code::FunctionInfo;
 pub use pts_points::{Branch, CallInfo, PointForm, PointInfo};

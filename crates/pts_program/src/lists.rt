@@ -12,7 +12,7 @@ use crate::info::{ArrayInfo, StatementInfo};
 use crate::lengths::length_of;
 use pts_code::{Codes, FunctionInfo};
 use pts_points::{CallInfo, PointInfo, add_points};
-use pts_resolve::{BlockInfo, CallText, add_blocks, add_texts, resolve_expr};
+use pts_resolve::{BlockInfo, CallText, add_blocks, add_texts, copy_name, resolve_expr};
 use pts_rules::Scope;
 use pts_starts::start_cells;
 use pts_tree::{ArrayDecl, FunctionDecl, Item, Name, Param};
@@ -57,12 +57,6 @@ fn small(n: usize) -> u32
     ensures { result ≡ points.small n }
 {
     if n < 4294967295 { n as u32 } else { u32::MAX }
-}
-
-fn copy_name(alloc: Global, name: &Name) -> Result<Name, AllocError>
-    ensures { IfOk result (λ copy. copy ≡ name.now) }
-{
-    Ok(Name::new(name.as_str().to_string(alloc)?))
 }
 
 fn copy_params(alloc: Global, params: &[Param]) -> Result<Items<Param>, AllocError>

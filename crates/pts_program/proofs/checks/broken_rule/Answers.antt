@@ -1,4 +1,4 @@
-use Rattle.std.proofs.Common.{◌≡◌, sym, ap, ◌∙◌}
+use Rattle.std.proofs.Common.{sym, ap, ◌∙◌}
 use Rattle.std.specs.Option.{option_or}
 use Rattle.pts_program.specs.Findings.{first_true, limit_tests, name_tests, step_tests}
 use Rattle.pts_program.proofs.Findings.{later}

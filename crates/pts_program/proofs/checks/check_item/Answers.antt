@@ -1,4 +1,4 @@
-use Rattle.std.proofs.Common.{◌≡◌, ◌≤◌, ℕ, None, Some, Err, IsTrue, sym, subst, ◌∙◌}
+use Rattle.std.proofs.Common.{◌≤◌, ℕ, Err, IsTrue, sym, subst, ◌∙◌}
 use Rattle.std.specs.Prelude.{⊤}
 use Rattle.pts_program.specs.declared.fault.BuildFault.{BuildFault}
 use Rattle.pts_program.specs.declared.standing.Standing.{Standing}

@@ -1,4 +1,4 @@
-use Rattle.std.proofs.Common.{◌≡◌, ◌+◌, ap, rules, ◌∙◌}
+use Rattle.std.proofs.Common.{◌+◌, ap, rules}
 use Rattle.pts_program.proofs.Declared.{standing_more}
 use Rattle.pts_program.proofs.standing.Standing.declare.Goals as goal
 
