@@ -5,9 +5,7 @@ use Rattle.pts_types.specs.declared.value.Kind.TheVariants as kinds
 use Rattle.pts_types.specs.declared.operation.Policy.{Policy}
 use Rattle.pts_types.specs.declared.operation.Policy.TheVariants as policies
 use Rattle.pts_types.specs.declared.operation.ScalarOp.TheVariants as ops
-use Rattle.pts_tree.specs.declared.sum.Atom.{Atom}
 use Rattle.pts_tree.specs.declared.sum.Atom.TheVariants as atoms
-use Rattle.pts_tree.specs.declared.sum.SumPart.{SumPart}
 use Rattle.pts_tree.specs.declared.sum.Sum.{Sum}
 use Rattle.pts_tree.specs.declared.sum.Val.{Val}
 use Rattle.pts_tree.specs.declared.sum.Val.TheVariants as vals
@@ -28,19 +26,14 @@ use Rattle.pts_eval.specs.declared.work.Work.TheVariants as works
 
 -- ---- numbers
 
--- a number with no sign before it and nothing added
-abbrev pub plain_by : Bool → List SumPart → Atom → Option ℕ
-plain_by false [] (atoms.Number n) = Some n
-plain_by _ _ _ = None
-
--- the number that a sum is; each one that is not below 0 is so where no constant is left
-abbrev pub plain_number : Sum → Option ℕ
-plain_number x = plain_by x.negative x.rest x.first
+-- the number that a sum is where no constant is left; those that are read here are not below 0
+abbrev pub sum_number : Sum → ℕ
+sum_number x = elim x.first [ atoms.Number n ↦ n | atoms.Name name ↦ 0 ]
 
 -- the number that an initial value is
-abbrev pub plain_init : Option Val → Option ℕ
-plain_init (Some (vals.Sum x)) = plain_number x
-plain_init _ = None
+abbrev pub init_number : Option Val → ℕ
+init_number (Some (vals.Sum x)) = sum_number x
+init_number _ = 0
 
 -- ---- calls
 
@@ -87,8 +80,7 @@ source_of lists call = option_and_then (when_u64 lists) (first_array (points_of_
 abbrev pub sum_work : Lists → ℕ → calls.Call → Option Work
 sum_work lists call x =
     if is_sum x
-    then option_and_then (λ init. option_and_then (λ low. option_and_then (λ high. option_map (λ array. works.Sum init array low high) (source_of lists call))
-    (plain_number x.first.high)) (plain_number x.first.low)) (plain_init x.init)
+    then option_map (λ array. works.Sum (init_number x.init) array (sum_number x.first.low) (sum_number x.first.high)) (source_of lists call)
     else None
 
 abbrev pub text_work : Lists → ℕ → CallText → Option Work

@@ -3,8 +3,6 @@
 
 mod functions;
 mod store;
-#[cfg(test)]
-mod tests;
 mod unbuilt;
 mod work;
 

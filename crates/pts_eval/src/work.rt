@@ -48,15 +48,12 @@ fn sum_work(program: &Program, call: u32, text: &Call) -> Option<Work>
     if !is_sum(text) {
         return None;
     }
-    let init = plain_init(&text.init)?;
-    let low = plain_number(&text.first.low)?;
-    let high = plain_number(&text.first.high)?;
     let array = source_of(program, call)?;
     Some(Work::Sum {
-        init,
+        init: init_number(&text.init),
         array,
-        low,
-        high,
+        low: sum_number(&text.first.low),
+        high: sum_number(&text.first.high),
     })
 }
 
@@ -108,23 +105,20 @@ fn is_plus(op: &Option<Op>) -> bool
     matches!(op, Some(Op::Table(ScalarOp::Plus)))
 }
 
-fn plain_number(sum: &Sum) -> Option<u64>
-    ensures { result ≡ spec.plain_number sum.now }
+fn sum_number(sum: &Sum) -> u64
+    ensures { result ≡ spec.sum_number sum.now }
 {
-    if sum.negative || !sum.rest.is_empty() {
-        return None;
-    }
     match &sum.first {
-        Atom::Number(number) => Some(*number),
-        Atom::Name(_) => None,
+        Atom::Number(number) => *number,
+        Atom::Name(_) => 0,
     }
 }
 
-fn plain_init(init: &Option<Val>) -> Option<u64>
-    ensures { result ≡ spec.plain_init init.now }
+fn init_number(init: &Option<Val>) -> u64
+    ensures { result ≡ spec.init_number init.now }
 {
     match init {
-        Some(Val::Sum(sum)) => plain_number(sum),
-        _ => None,
+        Some(Val::Sum(sum)) => sum_number(sum),
+        _ => 0,
     }
 }

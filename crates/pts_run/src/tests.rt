@@ -1,12 +1,14 @@
 //! Command lines, and whole calls over sources and sinks in memory.
 
+mod lists;
+mod points;
 mod refusals;
 
 use crate::{Command, Status, read_words, run_words};
 use pts_boards::Pool;
 use pts_eval::eval_fn;
 use pts_io::{MemorySink, MemorySource};
-use pts_program::build;
+use pts_program::{Program, build};
 use pts_syntax::parse;
 use pts_types::{Thrown, Value};
 use std::alloc::{AllocError, Global};
@@ -40,6 +42,17 @@ fn call(
     let mut sink = MemorySink::new(alloc, 1000, [failing_write].to_vec(alloc)?)?;
     let status = run_words(alloc, &words(alloc, texts)?, &mut source, &mut sink);
     Ok((status, sink))
+}
+
+// The program of a script with these items behind those of the front.
+fn built(alloc: Global, front: &str, items: &str) -> Result<Program, Fail> {
+    let text = format!(in alloc; "pts 1; {front}{items}")?;
+    let script = parse(alloc, text.as_bytes()).ok().ok_or("no script")?;
+    if script.items.len() > 100 {
+        return Err(Fail::from("too many items"));
+    }
+    let program = build(alloc, &script).ok().ok_or("no program")?;
+    Ok(program)
 }
 
 #[test]

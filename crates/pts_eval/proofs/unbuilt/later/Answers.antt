@@ -1,4 +1,4 @@
-use Rattle.std.proofs.Common.{◌≡◌, Some, None, List, sym, ap, ◌∙◌}
+use Rattle.std.proofs.Common.{Some, List, sym, ap, ◌∙◌}
 use Rattle.std.specs.Prelude.{find, is_none, option_map}
 use Rattle.pts_program.specs.declared.info.StatementInfo.{StatementInfo}
 use Rattle.pts_eval.specs.Works.{is_later, item_of}
