@@ -1,5 +1,5 @@
 -- No command takes bytes that it refuses, and it refuses bytes for one reason.
-use Rattle.std.proofs.Common.{◌≡◌, ◌≢◌, ◌<◌, ◌≤◌, ℕ, Some, None, List, length, refl, sym, ap, subst, ◌∙◌, arith}
+use Rattle.std.proofs.Common.{◌≡◌, ◌≢◌, ◌<◌, ℕ, Some, List, length, refl, sym, ap, subst, ◌∙◌, arith}
 use Rattle.pts_tree.specs.declared.script.Script.{Script}
 use Rattle.pts_syntax.specs.Syntax.{IsParsed, ExplainsKind}
 use Rattle.pts_syntax.specs.declared.reading.SyntaxFault.{SyntaxFault}
@@ -9,8 +9,6 @@ use Rattle.pts_syntax.proofs.OneFault.{same_script, no_fault_of_a_script, same_f
 use Rattle.pts_program.specs.declared.fault.BuildFault.{BuildFault}
 use Rattle.pts_program.specs.declared.fault.BuildFault.TheVariants as faults
 use Rattle.pts_program.specs.declared.lists.Lists.{Lists}
-use Rattle.pts_program.specs.Faults.{IsFaultAt, IsSound}
-use Rattle.pts_program.specs.Lists.{lists_of}
 use Rattle.pts_program.proofs.Decisions.{fault-or_sound}
 use Rattle.pts_program.proofs.FirstFaults.{fault-unique}
 use Rattle.pts_eval.specs.Works.{first_later}

@@ -1,5 +1,5 @@
 -- One more statement of a run.
-use Rattle.std.proofs.Common.{◌≡◌, ℕ, zero, suc, Option, Some, None, ◌+◌, ◌<◌, Bool, true, false, List, [], ◌∷◌, ◌++◌, length, map, take, drop, get_or, refl, sym, ap, subst, ◌∙◌, arith, append_assoc, IsSomeAnd}
+use Rattle.std.proofs.Common.{◌≡◌, ℕ, zero, suc, Option, Some, None, ◌+◌, ◌<◌, Bool, true, false, List, [], ◌∷◌, ◌++◌, length, take, drop, get_or, refl, sym, ap, subst, ◌∙◌, arith, append_assoc, IsSomeAnd}
 use Rattle.std.specs.Prelude.{cond, find, option_map}
 use Rattle.std.proofs.lemmas.List.{get_or_default, take_more, length-take-le, take-append-drop}
 use Rattle.std.specs.Io.KnownBytes.{Appends}
