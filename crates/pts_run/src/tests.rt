@@ -17,10 +17,10 @@ use std::test::Fail;
 // The number of a call that never comes.
 const NEVER: u64 = 999;
 
-const ONE_LINE: &[u8] = b"pts 1; array a: u64[3] = list 1, 2, 3; reduce seq a[0..3] init 0 plus;";
+const ONE_LINE: &str = "pts 1; array a: u64[3] = list 1, 2, 3; reduce seq a[0..3] init 0 plus;";
 
-const TWO_LINES: &[u8] =
-    b"pts 1; array a: u64[3] = list 1, 2, 3; reduce seq a[0..3] init 0 plus; print a;";
+const TWO_LINES: &str =
+    "pts 1; array a: u64[3] = list 1, 2, 3; reduce seq a[0..3] init 0 plus; print a;";
 
 fn words(alloc: Global, texts: &[&str]) -> Result<Vec<String>, AllocError> {
     texts
@@ -85,6 +85,15 @@ fn reads_the_words_of_a_run(rt: HostRuntime) -> Result<(), Fail> {
 }
 
 // Each call of the source and of the sink would fail.
+fn is_no_command(alloc: Global, texts: &[&str]) -> Result<bool, Fail> {
+    let (found, sink) = call(alloc, texts, ONE_LINE.as_bytes(), 0, 0)?;
+    Ok(
+        found == Status::Usage
+            && sink.bytes().is_empty()
+            && read_words(&words(alloc, texts)?).is_none(),
+    )
+}
+
 #[test]
 fn other_words_read_and_write_nothing(rt: HostRuntime) -> Result<(), Fail> {
     let alloc = rt.alloc();
@@ -116,105 +125,113 @@ fn other_words_read_and_write_nothing(rt: HostRuntime) -> Result<(), Fail> {
         &["check", "x"],
         &["check", "--workers", "1"],
     ];
-    for texts in table {
-        assert_eq!(rt; read_words(&words(alloc, texts)?), None);
-        let (found, sink) = call(alloc, texts, ONE_LINE, 0, 0)?;
-        assert_eq!(rt; found, Status::Usage);
-        assert!(rt; sink.bytes().is_empty());
+    for texts in table.iter() {
+        assert!(rt; is_no_command(alloc, texts)?, "{texts:?}");
     }
     Ok(())
 }
 
+// The first of the scripts that gives another status or another text.
+fn first_other<'a>(
+    alloc: Global,
+    word: &str,
+    table: &[(&'a str, Status, &str)],
+) -> Result<Option<&'a str>, Fail> {
+    for (script, status, text) in table {
+        let (found, sink) = call(alloc, &[word], script.as_bytes(), NEVER, NEVER)?;
+        if found != *status || sink.bytes() != text.as_bytes() {
+            return Ok(Some(script));
+        }
+    }
+    Ok(None)
+}
+
 #[test]
 fn writes_the_lines_or_the_refusal(rt: HostRuntime) -> Result<(), Fail> {
-    let table: [(&[u8], Status, &[u8]); 22] = [
-        (b"pts 1;", Status::Done, b""),
-        (ONE_LINE, Status::Done, b"1: reduce 6\n"),
-        (TWO_LINES, Status::Done, b"1: reduce 6\n2: print a 1 2 3\n"),
+    let table: [(&str, Status, &str); 22] = [
+        ("pts 1;", Status::Done, ""),
+        (ONE_LINE, Status::Done, "1: reduce 6\n"),
+        (TWO_LINES, Status::Done, "1: reduce 6\n2: print a 1 2 3\n"),
         (
-            b"pts 1; array b: u64[4] = list 1, 2, 3, 4; reduce seq b[1..3] init 40 plus; reduce seq b[4..4] init 7 plus;",
+            "pts 1; array b: u64[4] = list 1, 2, 3, 4; reduce seq b[1..3] init 40 plus; reduce seq b[4..4] init 7 plus;",
             Status::Done,
-            b"1: reduce 45\n2: reduce 7\n",
+            "1: reduce 45\n2: reduce 7\n",
         ),
         (
-            b"pts 1; array a: u64[2] = list 18446744073709551615, 2; reduce seq a[0..2] init 0 plus;",
+            "pts 1; array a: u64[2] = list 18446744073709551615, 2; reduce seq a[0..2] init 0 plus;",
             Status::Done,
-            b"1: reduce 1\n",
+            "1: reduce 1\n",
         ),
         (
-            b"pts 1; const N = 2 + 1; array a: i64[N] = iota 5 step -2; print a;",
+            "pts 1; const N = 2 + 1; array a: i64[N] = iota 5 step -2; print a;",
             Status::Done,
-            b"1: print a 5 3 1\n",
+            "1: print a 5 3 1\n",
         ),
         (
-            b"pts 1; array t: bool[2] = list true, false; array e: u64[0] = fill 1; array m: u64[1] = mix 0; print t; print e; print m;",
+            "pts 1; array t: bool[2] = list true, false; array e: u64[0] = fill 1; array m: u64[1] = mix 0; print t; print e; print m;",
             Status::Done,
-            b"1: print t true false\n2: print e\n3: print m 11400714820970677676\n",
+            "1: print t true false\n2: print e\n3: print m 11400714820970677676\n",
         ),
         (
-            b"pts 1; array a: i64[1] = fill -9223372036854775808; array long_name: u64[1] = fill 18446744073709551615; print a; print long_name;",
+            "pts 1; array a: i64[1] = fill -9223372036854775808; array long_name: u64[1] = fill 18446744073709551615; print a; print long_name;",
             Status::Done,
-            b"1: print a -9223372036854775808\n2: print long_name 18446744073709551615\n",
+            "1: print a -9223372036854775808\n2: print long_name 18446744073709551615\n",
         ),
         // An array that another one stands before.
         (
-            b"pts 1; array a: u64[1] = fill 1; array b: u64[1] = fill 2; const N = 1; reduce seq b[0..N] init N plus; reduce seq a[0..N] init N plus;",
+            "pts 1; array a: u64[1] = fill 1; array b: u64[1] = fill 2; const N = 1; reduce seq b[0..N] init N plus; reduce seq a[0..N] init N plus;",
             Status::Done,
-            b"1: reduce 3\n2: reduce 2\n",
+            "1: reduce 3\n2: reduce 2\n",
         ),
         (
-            b"pts 1; array a: u64[2] = list 1;",
+            "pts 1; array a: u64[2] = list 1;",
             Status::Refused,
-            b"refused lengths_differ item 1\n",
+            "refused lengths_differ item 1\n",
         ),
         (
-            b"pts 1; fn f(x: u64) -> u64 = f(x);",
+            "pts 1; fn f(x: u64) -> u64 = f(x);",
             Status::Refused,
-            b"refused unknown item 1\n",
+            "refused unknown item 1\n",
         ),
         (
-            b"pts 1; print a;",
+            "pts 1; print a;",
             Status::Refused,
-            b"refused unknown item 1\n",
+            "refused unknown item 1\n",
         ),
         (
-            b"pts 1; array a: u64[5] = fill 0; for_loop seq i = 0 to 5 { a[i] = a[i+1]; }",
+            "pts 1; array a: u64[5] = fill 0; for_loop seq i = 0 to 5 { a[i] = a[i+1]; }",
             Status::Refused,
-            b"refused out_of_range item 2 position 4\n",
+            "refused out_of_range item 2 position 4\n",
         ),
         // A rule that a later item breaks comes before an item that is not built.
         (
-            b"pts 1; array a: u64[2] = fill 4; reduce par a[0..2] init 0 plus; print b;",
+            "pts 1; array a: u64[2] = fill 4; reduce par a[0..2] init 0 plus; print b;",
             Status::Refused,
-            b"refused unknown item 3\n",
+            "refused unknown item 3\n",
         ),
         (
-            b"pts 1; array a: i64[2] = fill 4; print a; reduce seq a[0..2] init 0 plus; task_block { }",
+            "pts 1; array a: i64[2] = fill 4; print a; reduce seq a[0..2] init 0 plus; task_block { }",
             Status::Refused,
-            b"refused later item 3\n",
+            "refused later item 3\n",
         ),
-        (b"", Status::Refused, b"refused syntax at 0\n"),
-        (b"pts 1; @", Status::Refused, b"refused byte at 7\n"),
+        ("", Status::Refused, "refused syntax at 0\n"),
+        ("pts 1; @", Status::Refused, "refused byte at 7\n"),
         (
-            b"pts 1; const N = 18446744073709551616;",
+            "pts 1; const N = 18446744073709551616;",
             Status::Refused,
-            b"refused number at 17\n",
+            "refused number at 17\n",
         ),
         (
-            b"pts 1;array a: u64[1] = fill 0;for_loop seq i = 0 to 1 {",
+            "pts 1;array a: u64[1] = fill 0;for_loop seq i = 0 to 1 {",
             Status::Refused,
-            b"refused syntax at 56\n",
+            "refused syntax at 56\n",
         ),
         // A fault of a token comes first, though it stands later.
-        (b"pts 1; ) @", Status::Refused, b"refused byte at 9\n"),
-        (b"pts 2;", Status::Refused, b"refused syntax at 4\n"),
-        (b"pts 3;", Status::Refused, b"refused syntax at 4\n"),
+        ("pts 1; ) @", Status::Refused, "refused byte at 9\n"),
+        ("pts 2;", Status::Refused, "refused syntax at 4\n"),
+        ("pts 3;", Status::Refused, "refused syntax at 4\n"),
     ];
-    for (script, status, text) in table {
-        let (found, sink) = call(rt.alloc(), &["run"], script, NEVER, NEVER)?;
-        assert_eq!(rt; sink.bytes(), text);
-        assert_eq!(rt; found, status);
-    }
+    assert_eq!(rt; first_other(rt.alloc(), "run", &table)?, None);
     Ok(())
 }
 
@@ -266,46 +283,38 @@ fn at_most_64_brackets_are_open(rt: HostRuntime) -> Result<(), Fail> {
 
 #[test]
 fn checks_what_is_run(rt: HostRuntime) -> Result<(), Fail> {
-    let table: [(&[u8], Status, &[u8]); 5] = [
-        (ONE_LINE, Status::Done, b"accepted\n"),
-        (b"pts 1;", Status::Done, b"accepted\n"),
+    let table: [(&str, Status, &str); 5] = [
+        (ONE_LINE, Status::Done, "accepted\n"),
+        ("pts 1;", Status::Done, "accepted\n"),
         (
-            b"pts 1; array a: u64[1] = fill 1; reduce par a[0..1] init 0 plus;",
+            "pts 1; array a: u64[1] = fill 1; reduce par a[0..1] init 0 plus;",
             Status::Refused,
-            b"refused later item 2\n",
+            "refused later item 2\n",
         ),
         (
-            b"pts 1; print a;",
+            "pts 1; print a;",
             Status::Refused,
-            b"refused unknown item 1\n",
+            "refused unknown item 1\n",
         ),
-        (b"pts", Status::Refused, b"refused syntax at 3\n"),
+        ("pts", Status::Refused, "refused syntax at 3\n"),
     ];
-    for (script, status, text) in table {
-        let (found, sink) = call(rt.alloc(), &["check"], script, NEVER, NEVER)?;
-        assert_eq!(rt; sink.bytes(), text);
-        assert_eq!(rt; found, status);
-    }
+    assert_eq!(rt; first_other(rt.alloc(), "check", &table)?, None);
     Ok(())
 }
 
 // Printing asks for no script that is run.
 #[test]
 fn prints_the_canonical_spelling(rt: HostRuntime) -> Result<(), Fail> {
-    let table: [(&[u8], Status, &[u8]); 3] = [
-        (b"pts 01;print  a;", Status::Done, b"pts 1 ;\nprint a ;\n"),
+    let table: [(&str, Status, &str); 3] = [
+        ("pts 01;print  a;", Status::Done, "pts 1 ;\nprint a ;\n"),
         (
-            b"pts 1; array a: u64[1] = fill 4;",
+            "pts 1; array a: u64[1] = fill 4;",
             Status::Done,
-            b"pts 1 ;\narray a : u64 [ 1 ] = fill 4 ;\n",
+            "pts 1 ;\narray a : u64 [ 1 ] = fill 4 ;\n",
         ),
-        (b"pts 1; print", Status::Refused, b"refused syntax at 12\n"),
+        ("pts 1; print", Status::Refused, "refused syntax at 12\n"),
     ];
-    for (script, status, text) in table {
-        let (found, sink) = call(rt.alloc(), &["print"], script, NEVER, NEVER)?;
-        assert_eq!(rt; sink.bytes(), text);
-        assert_eq!(rt; found, status);
-    }
+    assert_eq!(rt; first_other(rt.alloc(), "print", &table)?, None);
     Ok(())
 }
 
@@ -318,7 +327,13 @@ fn stops_at_a_fault(rt: HostRuntime) -> Result<(), Fail> {
         (NEVER, 1, Status::WriteFault, b"1: reduce 6\n"),
     ];
     for (failing_read, failing_write, status, text) in table {
-        let (found, sink) = call(rt.alloc(), &["run"], TWO_LINES, failing_read, failing_write)?;
+        let (found, sink) = call(
+            rt.alloc(),
+            &["run"],
+            TWO_LINES.as_bytes(),
+            failing_read,
+            failing_write,
+        )?;
         assert_eq!(rt; sink.bytes(), text);
         assert_eq!(rt; found, status);
     }

@@ -7,7 +7,7 @@ pub const FRONT: &str =
 
 // The text of each group, and its items behind the front. Loops, blocks and most calls are not run yet, so where they
 // break no rule they are refused as `later`.
-pub const STATEMENTS: [(&str, &[&str]); 49] = [
+pub const STATEMENTS: [(&str, &[&str]); 24] = [
     // Unknown, and how far a local name reaches.
     (
         "refused unknown item 7\n",
@@ -207,6 +207,10 @@ pub const STATEMENTS: [(&str, &[&str]); 49] = [
         "refused later item 7\n",
         &["for_loop seq i = 0 to 4 reduce a[0] m identity 1 as v { }"],
     ),
+];
+
+// Indices and positions, and scripts with two faults.
+pub const POSITIONS: [(&str, &[&str]); 25] = [
     // NotAffine. Nothing else is asked of the names and codes in an index.
     (
         "refused not_affine item 7\n",
