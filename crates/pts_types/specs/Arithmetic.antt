@@ -1,5 +1,5 @@
 -- Arithmetic on values, exact in whole numbers without bound.
-use Rattle.std.specs.Prelude.{ℕ, ◌+◌, ◌-◌, ◌*◌, ◌/◌, ◌%◌, ◌^◌, min, max, Bool, not, ◌&&◌, ◌==◌, nat_lt, nat_le, ℤ, pos, negsuc, ◌+ℤ◌, ◌-ℤ◌, ◌*ℤ◌, neg_ℤ, int_lt, int_le, int_div, int_rem, bit_and, bit_or, bit_xor, if◌then◌else◌, Result, Ok, Err}
+use Rattle.std.specs.Prelude.{⊤, ℕ, ◌<◌, ◌≤ℤ◌, ◌+◌, ◌-◌, ◌*◌, ◌/◌, ◌%◌, ◌^◌, min, max, Bool, not, ◌&&◌, ◌==◌, nat_lt, nat_le, ℤ, pos, negsuc, ◌+ℤ◌, ◌-ℤ◌, ◌*ℤ◌, neg_ℤ, int_lt, int_le, int_div, int_rem, bit_and, bit_or, bit_xor, if◌then◌else◌, Result, Ok, Err}
 use Rattle.std.specs.Int.{int_min, int_max}
 use Rattle.std.specs.Ordering.{int_eq}
 use Rattle.pts_types.specs.declared.operation.ScalarOp.{ScalarOp}
@@ -12,12 +12,32 @@ use Rattle.pts_types.specs.declared.value.Value.{Value}
 use Rattle.pts_types.specs.declared.value.Value.TheVariants as values
 use Rattle.pts_types.specs.declared.value.Value.TheVariants.{I64, U64}
 
+-- ---- the range of i64
+
+abbrev pub least_i64 : ℤ
+least_i64 = neg_ℤ (pos (2 ^ 63))
+
+abbrev pub greatest_i64 : ℤ
+greatest_i64 = pos (2 ^ 63 - 1)
+
 -- ---- kinds
 
 abbrev pub kind_of : Value → Kind
 kind_of (I64 z) = kinds.I64
 kind_of (U64 n) = kinds.U64
 kind_of (values.Bool b) = kinds.Bool
+
+-- a value of this kind, in the range of the kind
+abbrev pub IsValueOf : Kind → Value → Type 0
+IsValueOf kinds.I64 (I64 z) = (least_i64 ≤ℤ z) × (z ≤ℤ greatest_i64)
+IsValueOf kinds.U64 (U64 n) = n < 2 ^ 64
+IsValueOf kinds.Bool (values.Bool b) = ⊤
+IsValueOf kind value = ⊥
+
+-- what an evaluation at this kind gives: a value of the kind, or a throw
+abbrev pub GivesKind : Kind → Result Value Thrown → Type 0
+GivesKind kind (Ok value) = IsValueOf kind value
+GivesKind kind (Err thrown) = ⊤
 
 -- one of the two operations that values of kind bool have
 abbrev pub IsEquality : ScalarOp → Type 0
@@ -36,13 +56,7 @@ IsReduction Min = Unit {0}
 IsReduction Max = Unit {0}
 IsReduction op = ⊥
 
--- ---- the range of i64
-
-abbrev pub least_i64 : ℤ
-least_i64 = neg_ℤ (pos (2 ^ 63))
-
-abbrev pub greatest_i64 : ℤ
-greatest_i64 = pos (2 ^ 63 - 1)
+-- ---- numbers of i64
 
 -- a whole number as a value of kind i64, which overflows out of the range
 abbrev pub exact : ℤ → Result Value Thrown
