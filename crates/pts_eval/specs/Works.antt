@@ -14,8 +14,8 @@ use Rattle.pts_tree.specs.declared.call.Op.TheVariants as op_variants
 use Rattle.pts_tree.specs.declared.call.CallForm.{CallForm}
 use Rattle.pts_tree.specs.declared.call.CallForm.TheVariants as forms
 use Rattle.pts_tree.specs.declared.call.Call as calls
-use Rattle.pts_resolve.specs.declared.texts.CallText.{CallText}
-use Rattle.pts_resolve.specs.declared.texts.CallText.TheVariants as texts
+use Rattle.pts_constants.specs.declared.texts.CallText.{CallText}
+use Rattle.pts_constants.specs.declared.texts.CallText.TheVariants as texts
 use Rattle.pts_points.specs.declared.point.PointInfo.{PointInfo}
 use Rattle.pts_program.specs.declared.info.StatementInfo.{StatementInfo}
 use Rattle.pts_program.specs.declared.info.StatementInfo.TheVariants.{Call, Block, Print}

@@ -1,4 +1,3 @@
 pub mod Lists
-pub mod Scoped
 pub mod Runs
 pub mod Walks

@@ -1,4 +1,4 @@
--- Rules of the builder against the scope that an item stands in.
+-- The rules that a call or a loop breaks by itself.
 use Rattle.std.specs.Prelude.{ℕ, ◌+◌, ◌^◌, nat_lt, Bool, false, ◌||◌, length}
 use Rattle.std.specs.List.{list_any}
 use Rattle.pts_tree.specs.declared.script.ArrayDecl.{ArrayDecl}
@@ -24,46 +24,3 @@ breaks rules.BadIdentity = λ scope. has_wrong_identity
 -- a statement of an item breaks it
 abbrev pub some_breaks : StatementRule → Scope → Item → Bool
 some_breaks rule scope x = list_any (breaks rule scope) (statements x)
-
--- TooDeep
-abbrev pub too_deep : Scope → Item → Bool
-too_deep scope (items.Function x) = nat_lt 16 (depth_of scope x.body)
-too_deep scope (items.Block x) = nat_lt 16 (nesting x)
-too_deep scope _ = false
-
--- an array passes the cells of all arrays, where the others have this many
-abbrev pub many_cells : Scope → ℕ → ArrayDecl → Bool
-many_cells scope cells x = nat_lt (2 ^ 20) (natural (number scope x.length) + cells)
-
--- a function has too many parameters or too large a size
-abbrev pub large : Scope → FunctionDecl → Bool
-large scope x = nat_lt 8 (length x.params) || nat_lt 65536 (size_of scope x.body)
-
--- the limits of every statement, behind this many statements
-abbrev pub many : Scope → ℕ → Item → Bool
-many scope before x = nat_lt 4096 (before + 1) || nat_lt 1024 (points x) || some_breaks rules.Length scope x
-
--- TooMany, behind this many statements and in a scope of arrays with this many cells
-abbrev pub too_many : Scope → ℕ → ℕ → Item → Bool
-too_many scope before cells (items.Const x) = false
-too_many scope before cells (items.Array x) = many_cells scope cells x
-too_many scope before cells (items.Function x) = large scope x
-too_many scope before cells (items.Block x) = list_any (nat_lt 64) (runs x) || many scope before (items.Block x)
-too_many scope before cells x = many scope before x
-
--- BadStep
-abbrev pub bad_step : Scope → Item → Bool
-bad_step = some_breaks rules.BadStep
-
--- BackwardRange
-abbrev pub backward_range : Scope → Item → Bool
-backward_range = some_breaks rules.BackwardRange
-
--- LengthsDiffer
-abbrev pub lengths_differ : Scope → Item → Bool
-lengths_differ scope (items.Array x) = list_differs scope x x.start
-lengths_differ scope x = some_breaks rules.LengthsDiffer scope x
-
--- BadIdentity
-abbrev pub bad_identity : Scope → Item → Bool
-bad_identity = some_breaks rules.BadIdentity

@@ -4,9 +4,8 @@ use Rattle.std.specs.Prelude.{◌||◌}
 use Rattle.std.specs.Str.{bytes_eq}
 use Rattle.std.proofs.lemmas.Slice.Eq.{bytes_eq-Decides}
 use Rattle.pts_rules.specs.Known.{Scope}
-use Rattle.pts_rules.specs.Names.{has_repeat, meet}
+use Rattle.pts_rules.specs.Names.{has_repeat, meet, names_in, clash}
 use Rattle.pts_rules.specs.Parts.{Name, is_among}
-use Rattle.pts_names.specs.Scoped.{names_in, clash}
 use Rattle.pts_names.specs.Entered.{local, repeats}
 
 alike : (a b : Bool) → (a ≡ true → b ≡ true) → (b ≡ true → a ≡ true) → a ≡ b

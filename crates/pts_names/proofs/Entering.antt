@@ -6,7 +6,7 @@ use Rattle.std.proofs.Math.Seq.{drop-append_seam}
 use Rattle.std.proofs.lemmas.List.{drop_more, drop_all}
 use Rattle.pts_rules.specs.Known.{Scope}
 use Rattle.pts_rules.specs.Parts.{Name, is_among, without}
-use Rattle.pts_names.specs.Scoped.{names_in}
+use Rattle.pts_rules.specs.Names.{names_in}
 use Rattle.pts_names.specs.Entered.{is_missing, misses, local, entered, repeats, IsOver}
 use Rattle.pts_names.proofs.Missing.{or_false}
 

@@ -13,9 +13,8 @@ use Rattle.pts_tree.specs.declared.script.FunctionDecl.{FunctionDecl}
 use Rattle.pts_tree.specs.declared.script.Item.{Item}
 use Rattle.pts_tree.specs.declared.script.Item.TheVariants as items
 use Rattle.pts_rules.specs.Known.{Scope}
-use Rattle.pts_rules.specs.Names.{has_repeat, meet}
+use Rattle.pts_rules.specs.Names.{has_repeat, meet, names_in, clash, is_unknown, is_twice}
 use Rattle.pts_rules.specs.Parts.{Name, is_among, without, sum_names, start_names, expr_names, param_names, call_names, loop_names, loop_locals, statement_names, statement_locals, used_names}
-use Rattle.pts_names.specs.Scoped.{names_in, clash, uses_unknown, declares_twice}
 use Rattle.pts_names.specs.Entered.{is_missing, misses, local, repeats, clashes, task_names, task_locals}
 use Rattle.pts_names.proofs.Missing.{misses_both, or_false}
 use Rattle.pts_names.proofs.Clashes.{repeats_clash}
@@ -24,30 +23,30 @@ use Rattle.pts_names.proofs.TaskNames.{of_block}
 -- ---- names that are not in scope
 
 module _ (scope : Scope) where
-  by_names : (x : Item) → uses_unknown scope x ≡ misses scope (used_names x)
+  by_names : (x : Item) → is_unknown scope x ≡ misses scope (used_names x)
   unfolding misses is_missing
   by_names x = refl
 
-  pub unknown-Const : (x : ConstDecl) → uses_unknown scope (items.Const x) ≡ misses scope (sum_names x.value)
+  pub unknown-Const : (x : ConstDecl) → is_unknown scope (items.Const x) ≡ misses scope (sum_names x.value)
   unknown-Const x = by_names (items.Const x)
 
-  pub unknown-Array : (x : ArrayDecl) → uses_unknown scope (items.Array x) ≡ (misses scope (sum_names x.length) || misses scope (start_names x.start))
+  pub unknown-Array : (x : ArrayDecl) → is_unknown scope (items.Array x) ≡ (misses scope (sum_names x.length) || misses scope (start_names x.start))
   unknown-Array x = by_names (items.Array x) ∙ misses_both scope (sum_names x.length) (start_names x.start)
 
-  pub unknown-Function : (x : FunctionDecl) → uses_unknown scope (items.Function x) ≡ misses scope (without (param_names x.params) (expr_names x.body))
+  pub unknown-Function : (x : FunctionDecl) → is_unknown scope (items.Function x) ≡ misses scope (without (param_names x.params) (expr_names x.body))
   unknown-Function x = by_names (items.Function x)
 
-  pub unknown-Call : (x : call.Call) → uses_unknown scope (items.Call x) ≡ misses scope (call_names x)
+  pub unknown-Call : (x : call.Call) → is_unknown scope (items.Call x) ≡ misses scope (call_names x)
   unknown-Call x = by_names (items.Call x) ∙ ap (misses scope) (append-nil (call_names x))
 
-  pub unknown-Loop : (x : loops.Loop) → uses_unknown scope (items.Loop x) ≡ misses scope (loop_names x)
+  pub unknown-Loop : (x : loops.Loop) → is_unknown scope (items.Loop x) ≡ misses scope (loop_names x)
   unknown-Loop x = by_names (items.Loop x) ∙ ap (misses scope) (append-nil (loop_names x))
 
-  pub unknown-Block : (x : Block) → uses_unknown scope (items.Block x) ≡ misses scope (flat_map task_names x.body)
+  pub unknown-Block : (x : Block) → is_unknown scope (items.Block x) ≡ misses scope (flat_map task_names x.body)
   unfolding task_names
   unknown-Block x = by_names (items.Block x) ∙ ap (misses scope) (of_block statement_names x)
 
-  pub unknown-Print : (x : Name) → uses_unknown scope (items.Print x) ≡ is_missing scope x
+  pub unknown-Print : (x : Name) → is_unknown scope (items.Print x) ≡ is_missing scope x
   unfolding is_missing
   unknown-Print x = or_false (not (is_among x (names_in scope)))
 
@@ -78,15 +77,15 @@ either true b = refl
 either false b = or_false b
 
 module _ (scope : Scope) where
-  pub twice-Const : (x : ConstDecl) → declares_twice scope (items.Const x) ≡ not (is_missing scope x.name)
+  pub twice-Const : (x : ConstDecl) → is_twice scope (items.Const x) ≡ not (is_missing scope x.name)
   unfolding is_missing
   twice-Const x = not_twice (is_among x.name (names_in scope))
 
-  pub twice-Array : (x : ArrayDecl) → declares_twice scope (items.Array x) ≡ not (is_missing scope x.name)
+  pub twice-Array : (x : ArrayDecl) → is_twice scope (items.Array x) ≡ not (is_missing scope x.name)
   unfolding is_missing
   twice-Array x = not_twice (is_among x.name (names_in scope))
 
-  pub twice-Function : (x : FunctionDecl) → declares_twice scope (items.Function x) ≡ repeats scope (x.name ∷ param_names x.params)
+  pub twice-Function : (x : FunctionDecl) → is_twice scope (items.Function x) ≡ repeats scope (x.name ∷ param_names x.params)
   unfolding repeats
   twice-Function x =
       let others = names_in scope in
@@ -99,18 +98,18 @@ module _ (scope : Scope) where
   unfolding clashes
   of_locals locals = ap (λ names. list_any (clash names) locals) (append-nil (names_in scope))
 
-  pub twice-Loop : (x : loops.Loop) → declares_twice scope (items.Loop x) ≡ repeats scope (loop_locals x)
+  pub twice-Loop : (x : loops.Loop) → is_twice scope (items.Loop x) ≡ repeats scope (loop_locals x)
   unfolding clashes
   twice-Loop x = of_locals (loop_locals x ∷ []) ∙ or_false (clash (names_in scope) (loop_locals x)) ∙ sym (repeats_clash scope (loop_locals x))
 
-  pub twice-Block : (x : Block) → declares_twice scope (items.Block x) ≡ clashes scope (flat_map task_locals x.body)
+  pub twice-Block : (x : Block) → is_twice scope (items.Block x) ≡ clashes scope (flat_map task_locals x.body)
   unfolding task_locals
   twice-Block x = ap (list_any (clash (names_in scope ++ []))) (of_block (λ y. statement_locals y ∷ []) x) ∙ of_locals (flat_map task_locals x.body)
 
-  pub twice-Call : (x : call.Call) → declares_twice scope (items.Call x) ≡ false
+  pub twice-Call : (x : call.Call) → is_twice scope (items.Call x) ≡ false
   twice-Call x = refl
 
-  pub twice-Print : (x : Name) → declares_twice scope (items.Print x) ≡ false
+  pub twice-Print : (x : Name) → is_twice scope (items.Print x) ≡ false
   twice-Print x = refl
 
 pub ruleset twice_parts = (twice-Const, twice-Array, twice-Function, twice-Call, twice-Loop, twice-Block, twice-Print)

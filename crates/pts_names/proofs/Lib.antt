@@ -1,7 +1,6 @@
 pub mod Clashes
 pub mod Entering
 pub mod ExprNames
-pub mod Globals
 pub mod ItemNames
 pub mod LoopNames
 pub mod Missing

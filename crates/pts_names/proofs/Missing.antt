@@ -9,7 +9,7 @@ use Rattle.pts_rules.specs.declared.meaning.Meaning.{Meaning}
 use Rattle.pts_rules.specs.Known.{Scope, meaning_of}
 use Rattle.pts_tree.specs.declared.call.Call.{Call}
 use Rattle.pts_rules.specs.Parts.{Name, is_among, range_names, cell_names, val_names, op_names, names_of, call_names}
-use Rattle.pts_names.specs.Scoped.{names_in}
+use Rattle.pts_rules.specs.Names.{names_in}
 use Rattle.pts_names.specs.Entered.{is_missing, misses}
 
 in_first : (b c : Bool) (meaning : Meaning) (rest : Option Meaning) → is_some rest ≡ c → is_some (if b then Some meaning else rest) ≡ (b || c)

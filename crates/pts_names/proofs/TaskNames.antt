@@ -14,7 +14,7 @@ use Rattle.pts_tree.specs.declared.block.TaskStmt.TheVariants as t
 use Rattle.pts_rules.specs.Known.{Scope}
 use Rattle.pts_rules.specs.Parts.{Name, Simple, Throw, Assign, Call, Loop, block_statements, statement_names, statement_locals, cell_names, expr_names, call_names, loop_names, loop_locals}
 use Rattle.pts_rules.proofs.Tasks as by
-use Rattle.pts_names.specs.Scoped.{names_in, clash}
+use Rattle.pts_rules.specs.Names.{names_in, clash}
 use Rattle.pts_names.specs.Entered.{misses, repeats, task_statements, task_names, task_locals, clashes}
 use Rattle.pts_names.proofs.Missing.{misses_none, misses_both, or_false}
 use Rattle.pts_names.proofs.Clashes.{repeats_clash}

@@ -8,7 +8,7 @@ use Rattle.pts_tree.specs.declared.block.TaskStmt.TheFolds.{fold-TaskStmt}
 use Rattle.pts_rules.specs.declared.meaning.Meaning.TheVariants.{Value}
 use Rattle.pts_rules.specs.Known.{Entry, Scope}
 use Rattle.pts_rules.specs.Parts.{Name, Simple, uses, free, is_among, without, simple_step, sum_names, names_of, clause_names, head_locals, statement_names, statement_locals}
-use Rattle.pts_names.specs.Scoped.{names_in, clash}
+use Rattle.pts_rules.specs.Names.{names_in, clash}
 
 -- ---- names in scope
 

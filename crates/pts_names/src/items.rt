@@ -3,7 +3,7 @@
 ghost use Rattle.std.specs.Prelude.{◌≡◌, ◌∷◌, ◌++◌, IfOk, OnOk, flat_map};
 ghost use Rattle.pts_rules.specs.Parts as spec;
 ghost use Rattle.pts_names.specs.Entered.{misses, repeats};
-ghost use Rattle.pts_names.specs.Scoped as scoped;
+ghost use Rattle.pts_rules.specs.Names as rules;
 
 use crate::blocks::{tasks_clash, tasks_miss};
 use crate::expressions::expr_misses;
@@ -66,7 +66,7 @@ fn function_repeats(alloc: Global, scope: &mut Scope, x: &FunctionDecl) -> Resul
 /// Whether the item uses a name that is not in scope and that is no local name of its own. The scope is left as it was.
 #[tactic(auto, using(crate::proofs::ItemNames::unknown_parts))]
 pub fn uses_unknown(alloc: Global, scope: &mut Scope, item: &Item) -> Result<bool, NoMemory>
-    ensures answer { IfOk result (λ b. b ≡ scoped.uses_unknown scope.old item.now) }
+    ensures answer { IfOk result (λ b. b ≡ rules.is_unknown scope.old item.now) }
     ensures same { OnOk result (scope.new ≡ scope.old) }
 {
     match item {
@@ -84,7 +84,7 @@ pub fn uses_unknown(alloc: Global, scope: &mut Scope, item: &Item) -> Result<boo
 /// is another local name of the same function or loop. The scope is left as it was.
 #[tactic(auto, using(crate::proofs::ItemNames::twice_parts))]
 pub fn declares_twice(alloc: Global, scope: &mut Scope, item: &Item) -> Result<bool, NoMemory>
-    ensures answer { IfOk result (λ b. b ≡ scoped.declares_twice scope.old item.now) }
+    ensures answer { IfOk result (λ b. b ≡ rules.is_twice scope.old item.now) }
     ensures same { OnOk result (scope.new ≡ scope.old) }
 {
     match item {

@@ -6,7 +6,7 @@ ghost use Rattle.pts_points.specs.Points as spec;
 
 use crate::numbers::{amount, clamp, natural, positions, product, small, step_amount};
 use pts_affine::Line;
-use pts_indices::{Affine, affine_of};
+use pts_bounds::{Affine, affine_of};
 use pts_rules::Scope;
 use pts_tree::{Cell, Expr, Loop, Name, Range};
 use std::alloc::{AllocError, Global};

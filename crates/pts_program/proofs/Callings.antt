@@ -17,8 +17,8 @@ use Rattle.pts_rules.specs.Known.{Scope, meaning_of, constant_of, as_function, f
 use Rattle.pts_rules.specs.Kinds.{Typing, typing, each_fits, name_typing, call_typing, element_typing, minus_typing, arguments_fit}
 use Rattle.pts_rules.specs.Parts.{Name}
 use Rattle.pts_rules.proofs.Typings.{typing-Name, typing-Call, typing-Element, typing-Convert, typing-Paren, typing-Minus, typing-Not, typing-Chain, typing-Compare, typing-All, typing-Any, typing-If}
-use Rattle.pts_resolve.specs.Resolved.{resolved_expr, resolved_part, constant_expr, number_expr, minus_expr, named}
-use Rattle.pts_resolve.proofs.Resolutions.{resolved-Number, resolved-True, resolved-False, resolved-Name, resolved-Call, resolved-Convert, resolved-Throw, resolved-Paren, resolved-Minus, resolved-Not, resolved-Chain, resolved-Compare, resolved-All, resolved-Any, resolved-If}
+use Rattle.pts_constants.specs.Resolved.{resolved_expr, resolved_part, constant_expr, number_expr, minus_expr, named}
+use Rattle.pts_constants.proofs.Resolutions.{resolved-Number, resolved-True, resolved-False, resolved-Name, resolved-Call, resolved-Convert, resolved-Throw, resolved-Paren, resolved-Minus, resolved-Not, resolved-Chain, resolved-Compare, resolved-All, resolved-Any, resolved-If}
 use Rattle.pts_program.specs.Callings.{is_one_of, each, uses_only}
 use Rattle.pts_program.proofs.UseForms.{using-Number, using-True, using-False, using-Name, using-Call, using-Convert, using-Throw, using-Paren, using-Minus, using-Not, using-Chain, using-Compare, using-All, using-Any, using-If}
 

@@ -78,7 +78,7 @@ left-below_all p (x ∷ xs) h =
 decide-out : (before : List Item) (x : Item) → Decided (Breaks OutOfRange before x)
 decide-out before x =
     let m = bounds (flat_map (reaches (known before)) (statements x)) in
-    elim (least-below (λ p. IsTrue (is_out_at before x p)) (λ p. decide-test (is_out_at before x p)) m) [
+    elim (least-below (λ p. IsTrue (is_out_at (known before) x p)) (λ p. decide-test (is_out_at (known before) x p)) m) [
       | inl found ↦ inl (found.0, found.1)
       | inr none ↦ inr (λ h. none h.0 (left-below_all h.0 (flat_map (reaches (known before)) (statements x)) h.1) h.1)
     ]
@@ -174,8 +174,8 @@ first-position LengthsDiffer (Some x) before h = (0, tt)
 first-position BadIdentity (Some x) before h = (0, tt)
 first-position NotAffine (Some x) before h = (0, tt)
 first-position OutOfRange (Some x) before h =
-    let least = least-of (λ p. IsTrue (is_out_at before x p)) (λ p. decide-test (is_out_at before x p)) h.0 h.1 in
-    (least.0, record { out = least.1; first = λ q out. not-before (λ p. IsTrue (is_out_at before x p)) least q out (cases_lt q least.0) })
+    let least = least-of (λ p. IsTrue (is_out_at (known before) x p)) (λ p. decide-test (is_out_at (known before) x p)) h.0 h.1 in
+    (least.0, record { out = least.1; first = λ q out. not-before (λ p. IsTrue (is_out_at (known before) x p)) least q out (cases_lt q least.0) })
   where
     not-before : (P : ℕ → Type 0) (least : Least P) (q : ℕ) → P q → (q < least.0) ⊎ (least.0 ≤ q) → least.0 ≤ q
     not-before P least q p (inl less) = absurd (least.2 q less p)

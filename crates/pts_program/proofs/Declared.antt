@@ -11,15 +11,14 @@ use Rattle.pts_tree.specs.declared.script.Param.{Param}
 use Rattle.pts_code.specs.declared.function.FunctionInfo.{FunctionInfo}
 use Rattle.pts_rules.specs.Counts.{size_of}
 use Rattle.pts_rules.specs.Known.{Entry, Scope, number}
-use Rattle.pts_rules.specs.Limits.{cells, cells_of, is_statement}
+use Rattle.pts_rules.specs.Limits.{cells, cells_of, is_large, is_statement, is_too_many}
 use Rattle.pts_rules.specs.declared.meaning.Meaning.TheVariants.{Constant, Array, Function}
 use Rattle.pts_rules.specs.Scopes.{after, known, signature}
-use Rattle.pts_limits.specs.Rules.{large, too_many}
 use Rattle.pts_program.specs.declared.standing.Standing.{Standing}
 use Rattle.pts_program.specs.Lists.{functions_of}
 use Rattle.pts_program.specs.Standings.{cells_in, is_large_function, IsAcceptable, IsDeclarable, IsStanding}
 
-few_function : (scope : Scope) (statements held : ℕ) (x : Item) → too_many scope statements held x ≡ false → is_large_function scope x ≡ false
+few_function : (scope : Scope) (statements held : ℕ) (x : Item) → is_too_many scope statements held x ≡ false → is_large_function scope x ≡ false
 few_function scope statements held (items.Const x) few = refl
 few_function scope statements held (items.Array x) few = refl
 few_function scope statements held (items.Function x) few = few
@@ -75,7 +74,7 @@ none_standing standing scope statements held = record { scope = scope; statement
 -- ---- functions
 
 -- a function within the limits has at most eight parameters
-few_params : (scope : Scope) (x : FunctionDecl) → large scope x ≡ false → length x.params ≤ 8
+few_params : (scope : Scope) (x : FunctionDecl) → is_large scope x ≡ false → length x.params ≤ 8
 few_params scope x few =
     let few_of = (or_parts (nat_lt 8 (length x.params)) (nat_lt 65536 (size_of scope x.body)) few).0 in
     grind (arith, nat_tests, few_of)
@@ -85,7 +84,7 @@ first_params [] = []
 first_params (f ∷ fs) = f.params
 
 -- and so has its copy
-pub pushable : (scope : Scope) (x : FunctionDecl) (info : FunctionInfo) → info ∷ [] ≡ functions_of scope (items.Function x) → large scope x ≡ false → length info.params ≤ 8
+pub pushable : (scope : Scope) (x : FunctionDecl) (info : FunctionInfo) → info ∷ [] ≡ functions_of scope (items.Function x) → is_large scope x ≡ false → length info.params ≤ 8
 pushable scope x info is few =
     let same : length info.params ≡ length x.params = ap (λ (fs : List FunctionInfo). length (first_params fs)) is in
     omega (arith, same, few_params scope x few)

@@ -1,26 +1,20 @@
 -- What the tests of an item find is its verdict.
 use Rattle.std.proofs.Common.{◌≡◌, ℕ, suc, ◌+◌, ◌<◌, ◌≤◌, ◌↔◌, ◌⊎◌, inl, inr, Bool, true, false, IsTrue, Option, Some, None, List, [], ◌∷◌, length, refl, sym, ap, ◌∙◌, subst, arith}
 use Rattle.std.specs.Option.{option_or}
-use Rattle.std.specs.Prelude.{if◌then◌else◌, not, ⊤, Ok, Err}
+use Rattle.std.specs.Prelude.{if◌then◌else◌, count_by, not, ⊤, Ok, Err}
 use Rattle.std.proofs.lemmas.Bool.{false≢true}
 use Rattle.pts_tree.specs.declared.script.Item.{Item}
 use Rattle.pts_rules.specs.Known.{Scope}
-use Rattle.pts_rules.specs.Limits.{is_too_deep, is_too_many}
+use Rattle.pts_rules.specs.Limits.{cells, is_statement, is_too_deep, is_too_many}
 use Rattle.pts_rules.specs.Mistyped.{item_right}
-use Rattle.pts_rules.specs.Names.{is_twice, is_unknown}
 use Rattle.pts_rules.specs.Scopes.{known}
-use Rattle.pts_rules.specs.Steps as steps
-use Rattle.pts_names.proofs.Globals.{unknown_is, twice_is}
-use Rattle.pts_names.specs.Scoped.{declares_twice, uses_unknown}
-use Rattle.pts_limits.specs.Rules.{bad_identity, bad_step, backward_range, lengths_differ, too_deep, too_many}
-use Rattle.pts_limits.proofs.Scoped.{deep_is, many_is, bad_step_is, backward_range_is, lengths_differ_is, bad_identity_is}
 use Rattle.pts_program.specs.declared.fault.BuildFault.TheVariants as faults
 use Rattle.pts_program.specs.declared.fault.Rule.{Rule}
 use Rattle.pts_program.specs.declared.fault.Rule.TheVariants.{Unknown, Twice, Mistyped, TooDeep, TooMany, BadStep, BackwardRange, LengthsDiffer, BadIdentity, NotAffine, OutOfRange}
 use Rattle.pts_program.specs.declared.standing.Standing.{Standing}
 use Rattle.pts_program.specs.Faults.{place_of, Breaks, IsPosition, fault_of}
 use Rattle.pts_program.specs.Findings.{first_true, first_broken, name_tests, limit_tests, step_tests}
-use Rattle.pts_reaches.specs.AtScope.{out_at}
+use Rattle.pts_rules.specs.Indices.{is_out_at}
 use Rattle.pts_program.specs.Standings.{IsAcceptable, IsStanding}
 use Rattle.pts_program.specs.Verdicts.{IsClear, IsVerdict}
 use Rattle.pts_program.proofs.Verdicts.{clear_none, clear_one, clear_both}
@@ -88,46 +82,25 @@ module _ (before : List Item) (x : Item) where
   same_truth : (b c : Bool) → b ≡ c → (IsTrue b ↔ IsTrue c)
   same_truth b c e = (subst IsTrue e, subst IsTrue (sym e))
 
+  alike : {A : Type 0} → (A ↔ A)
+  alike = (λ h. h, λ h. h)
+
   names_are : AreTests 0 (name_tests (known before) x)
-  names_are = (
-    refl,
-    same_truth (uses_unknown (known before) x) (is_unknown before x) (unknown_is before x),
-    (
-      refl,
-      same_truth (declares_twice (known before) x) (is_twice before x) (twice_is before x),
-      (refl, (λ h. h, λ h. h), tt),
-    ),
-  )
+  names_are = (refl, alike, (refl, alike, (refl, alike, tt)))
 
   limits_are : (s : Standing) → IsStanding before s → AreTests 3 (limit_tests s x)
   limits_are s h = (
     refl,
-    same_truth (too_deep s.scope x) (is_too_deep before x) (ap (λ (e : Scope). too_deep e x) h.scope ∙ sym (deep_is before x)),
+    same_truth (is_too_deep s.scope x) (is_too_deep (known before) x) (ap (λ (e : Scope). is_too_deep e x) h.scope),
     (
       refl,
-      same_truth (too_many s.scope s.statements s.cells x) (is_too_many before x) ((λ i. too_many (h.scope i) (h.statements i) (h.cells i) x) ∙ sym (many_is before x)),
+      same_truth (is_too_many s.scope s.statements s.cells x) (is_too_many (known before) (count_by is_statement before) (cells (known before)) x) (λ i. is_too_many (h.scope i) (h.statements i) (h.cells i) x),
       tt,
     ),
   )
 
   steps_are : AreTests 5 (step_tests (known before) x)
-  steps_are = (
-    refl,
-    same_truth (bad_step (known before) x) (steps.is_bad_step before x) (sym (bad_step_is before x)),
-    (
-      refl,
-      same_truth (backward_range (known before) x) (steps.is_backward_range before x) (sym (backward_range_is before x)),
-      (
-        refl,
-        same_truth (lengths_differ (known before) x) (steps.lengths_differ before x) (sym (lengths_differ_is before x)),
-        (
-          refl,
-          same_truth (bad_identity (known before) x) (steps.is_bad_identity before x) (sym (bad_identity_is before x)),
-          (refl, (λ h. h, λ h. h), tt),
-        ),
-      ),
-    ),
-  )
+  steps_are = (refl, alike, (refl, alike, (refl, alike, (refl, alike, (refl, alike, tt)))))
 
   -- ---- all tests together
 
@@ -211,8 +184,8 @@ module _ (before : List Item) (x : Item) where
         });
       }
 
-  pub out_verdict : {A : Type 0} (s : Standing) (n p : ℕ) → IsStanding before s → None ≡ first_broken s x → IsTrue (out_at s.scope x p)
-      → ((q : ℕ) → IsTrue (out_at s.scope x q) → p ≤ q) → IsVerdict 0 11 before x n {A = A} (Err (fault_of OutOfRange n p))
+  pub out_verdict : {A : Type 0} (s : Standing) (n p : ℕ) → IsStanding before s → None ≡ first_broken s x → IsTrue (is_out_at s.scope x p)
+      → ((q : ℕ) → IsTrue (is_out_at s.scope x q) → p ≤ q) → IsVerdict 0 11 before x n {A = A} (Err (fault_of OutOfRange n p))
   out_verdict s n p h e out first =
       record {
         clear = tt;
@@ -221,11 +194,11 @@ module _ (before : List Item) (x : Item) where
           position = p;
           from = omega arith;
           below = omega arith;
-          breaks = (p, subst (λ (e : Scope). IsTrue (out_at e x p)) h.scope out);
+          breaks = (p, subst (λ (e : Scope). IsTrue (is_out_at e x p)) h.scope out);
           earlier = all_clear s h (sym e);
           first = record {
-            out = subst (λ (e : Scope). IsTrue (out_at e x p)) h.scope out;
-            first = λ q o. first q (subst (λ (e : Scope). IsTrue (out_at e x q)) (sym h.scope) o);
+            out = subst (λ (e : Scope). IsTrue (is_out_at e x p)) h.scope out;
+            first = λ q o. first q (subst (λ (e : Scope). IsTrue (is_out_at e x q)) (sym h.scope) o);
           };
           named = refl;
         });
@@ -234,11 +207,11 @@ module _ (before : List Item) (x : Item) where
   last_clear : IsClear 0 10 before x → ¬ Breaks OutOfRange before x → IsClear 0 11 before x
   last_clear clear within = clear_both before x 0 10 11 clear (clear_one before x OutOfRange within)
 
-  pub clear_verdict : {A : Type 0} (s : Standing) (n : ℕ) (u : A) → IsStanding before s → None ≡ first_broken s x → ((p : ℕ) → ¬ IsTrue (out_at s.scope x p))
+  pub clear_verdict : {A : Type 0} (s : Standing) (n : ℕ) (u : A) → IsStanding before s → None ≡ first_broken s x → ((p : ℕ) → ¬ IsTrue (is_out_at s.scope x p))
       → IsVerdict 0 11 before x n {A = A} (Ok u)
   clear_verdict s n u h e within =
       record {
-        clear = last_clear (all_clear s h (sym e)) (λ out. within out.0 (subst (λ (e : Scope). IsTrue (out_at e x out.0)) (sym h.scope) out.1));
+        clear = last_clear (all_clear s h (sym e)) (λ out. within out.0 (subst (λ (e : Scope). IsTrue (is_out_at e x out.0)) (sym h.scope) out.1));
         fault = tt;
       }
 

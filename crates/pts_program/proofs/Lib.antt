@@ -2,10 +2,8 @@ pub mod CellKinds
 pub mod Callings
 pub mod Clips
 pub mod Decisions
-pub mod Edges
 pub mod FirstFaults
 pub mod Insides
-pub mod ScopeEdges
 pub mod SoundFunctions
 pub mod SoundStatements
 pub mod UseForms

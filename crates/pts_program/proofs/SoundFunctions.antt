@@ -15,7 +15,7 @@ use Rattle.pts_rules.specs.declared.meaning.Signature.{Signature}
 use Rattle.pts_rules.specs.Known.{Scope, meaning_of, constant_of, as_constant, as_function, as_value, number}
 use Rattle.pts_rules.specs.Parts.{Name, param_names}
 use Rattle.pts_rules.specs.Scopes.{after, known, param_entry, signature}
-use Rattle.pts_resolve.specs.Resolved.{resolved_expr}
+use Rattle.pts_constants.specs.Resolved.{resolved_expr}
 use Rattle.pts_code.specs.declared.function.FunctionInfo.{FunctionInfo}
 use Rattle.pts_program.specs.declared.fault.Rule.TheVariants.{Mistyped}
 use Rattle.pts_program.specs.declared.lists.Lists.{Lists}

@@ -46,10 +46,10 @@ all_sound scope (s ∷ ss) right forward short stays =
     All-cons (IsSound scope) s ss (record { right = r.0; forward = f.0; short = l.0; stays = λ p. (stays_apart scope p s ss (stays p)).0 })
     (all_sound scope ss r.1 f.1 l.1 (λ p. (stays_apart scope p s ss (stays p)).1))
 
-none_long : (before : List Item) (x : Item) → has_many before x ≡ false → list_any (is_long (known before)) (statements x) ≡ false
+none_long : (before : List Item) (x : Item) → has_many (known before) (count_by is_statement before) x ≡ false → list_any (is_long (known before)) (statements x) ≡ false
 none_long before x h = (or_parts (nat_lt 4096 (count_by is_statement before + 1) || nat_lt 1024 (points x)) (list_any (is_long (known before)) (statements x)) h).1
 
-by_parts : (before : List Item) (x : Item) → IsClean before x → list_all (statement_right (known before)) (statements x) ≡ true → has_many before x ≡ false
+by_parts : (before : List Item) (x : Item) → IsClean before x → list_all (statement_right (known before)) (statements x) ≡ true → has_many (known before) (count_by is_statement before) x ≡ false
     → All (IsSound (known before)) (statements x)
 by_parts before x clean right few =
     all_sound (known before) (statements x) right (off _ (clean BackwardRange)) (none_long before x few) (λ p. off _ (λ out. clean OutOfRange (p, out)))

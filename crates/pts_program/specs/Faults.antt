@@ -1,5 +1,5 @@
 -- The rules in their order, and the first fault of a script.
-use Rattle.std.specs.Prelude.{◌≡◌, ℕ, zero, suc, ◌-◌, ◌<◌, ◌≤◌, IsTrue, IsSomeAnd, Option, None, List, take, slice_get, ⊤}
+use Rattle.std.specs.Prelude.{◌≡◌, ℕ, zero, suc, ◌-◌, ◌<◌, ◌≤◌, IsTrue, IsSomeAnd, Option, None, List, take, slice_get, count_by, ⊤}
 use Rattle.pts_tree.specs.declared.script.Item.{Item}
 use Rattle.pts_tree.specs.declared.script.Script.{Script}
 use Rattle.pts_program.specs.declared.fault.BuildFault.{BuildFault}
@@ -8,9 +8,10 @@ use Rattle.pts_program.specs.declared.fault.Rule.{Rule}
 use Rattle.pts_program.specs.declared.fault.Rule.TheVariants.{Unknown, Twice, Mistyped, TooDeep, TooMany, BadStep, BackwardRange, LengthsDiffer, BadIdentity, NotAffine, OutOfRange}
 use Rattle.pts_rules.specs.Names.{is_unknown, is_twice}
 use Rattle.pts_rules.specs.Mistyped.{is_mistyped}
-use Rattle.pts_rules.specs.Limits.{is_too_deep, is_too_many}
+use Rattle.pts_rules.specs.Limits.{cells, is_statement, is_too_deep, is_too_many}
 use Rattle.pts_rules.specs.Steps.{is_bad_step, is_backward_range, lengths_differ, is_bad_identity}
 use Rattle.pts_rules.specs.Indices.{is_not_affine, is_out_at}
+use Rattle.pts_rules.specs.Scopes.{known}
 
 -- the place of a rule in the order in which they are tried
 abbrev pub place_of : Rule → ℕ
@@ -26,24 +27,24 @@ place_of BadIdentity = 8
 place_of NotAffine = 9
 place_of OutOfRange = 10
 
--- an item breaks this rule, against the items before it
+-- an item breaks this rule, in the scope that the items before it leave
 abbrev pub Breaks : Rule → List Item → Item → Type 0
-Breaks Unknown before x = IsTrue (is_unknown before x)
-Breaks Twice before x = IsTrue (is_twice before x)
-Breaks Mistyped before x = IsTrue (is_mistyped before x)
-Breaks TooDeep before x = IsTrue (is_too_deep before x)
-Breaks TooMany before x = IsTrue (is_too_many before x)
-Breaks BadStep before x = IsTrue (is_bad_step before x)
-Breaks BackwardRange before x = IsTrue (is_backward_range before x)
-Breaks LengthsDiffer before x = IsTrue (lengths_differ before x)
-Breaks BadIdentity before x = IsTrue (is_bad_identity before x)
-Breaks NotAffine before x = IsTrue (is_not_affine before x)
-Breaks OutOfRange before x = (p : ℕ) × IsTrue (is_out_at before x p)
+Breaks Unknown before x = IsTrue (is_unknown (known before) x)
+Breaks Twice before x = IsTrue (is_twice (known before) x)
+Breaks Mistyped before x = IsTrue (is_mistyped (known before) x)
+Breaks TooDeep before x = IsTrue (is_too_deep (known before) x)
+Breaks TooMany before x = IsTrue (is_too_many (known before) (count_by is_statement before) (cells (known before)) x)
+Breaks BadStep before x = IsTrue (is_bad_step (known before) x)
+Breaks BackwardRange before x = IsTrue (is_backward_range (known before) x)
+Breaks LengthsDiffer before x = IsTrue (lengths_differ (known before) x)
+Breaks BadIdentity before x = IsTrue (is_bad_identity (known before) x)
+Breaks NotAffine before x = IsTrue (is_not_affine (known before) x)
+Breaks OutOfRange before x = (p : ℕ) × IsTrue (is_out_at (known before) x p)
 
 -- p is the least position at which an item is out of range
 pub record IsFirstOut (before : List Item) (x : Item) (p : ℕ) : Type 0 where
-  pub out : IsTrue (is_out_at before x p)
-  pub first : (q : ℕ) → IsTrue (is_out_at before x q) → p ≤ q
+  pub out : IsTrue (is_out_at (known before) x p)
+  pub first : (q : ℕ) → IsTrue (is_out_at (known before) x q) → p ≤ q
 
 -- OutOfRange alone has a position
 abbrev pub IsPosition : Rule → List Item → Item → ℕ → Type 0

@@ -6,9 +6,9 @@ use Rattle.pts_tree.specs.declared.script.Script.{Script}
 use Rattle.pts_rules.specs.Known.{Scope, natural, number}
 use Rattle.pts_rules.specs.Scopes.{known}
 use Rattle.pts_code.specs.declared.function.FunctionInfo.{FunctionInfo}
-use Rattle.pts_resolve.specs.Resolved.{resolved_expr}
-use Rattle.pts_resolve.specs.Texts.{texts_of}
-use Rattle.pts_resolve.specs.Blocks.{blocks_of}
+use Rattle.pts_constants.specs.Resolved.{resolved_expr}
+use Rattle.pts_constants.specs.Texts.{texts_of}
+use Rattle.pts_constants.specs.Blocks.{blocks_of}
 use Rattle.pts_points.specs.declared.point.CallInfo.{CallInfo}
 use Rattle.pts_points.specs.declared.point.PointInfo.{PointInfo}
 use Rattle.pts_points.specs.Points.{array_at, calls_of, points_of, small}

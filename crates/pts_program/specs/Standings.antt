@@ -3,10 +3,9 @@ use Rattle.std.specs.Prelude.{◌≡◌, ℕ, Bool, false, IsTrue, List, count_b
 use Rattle.pts_tree.specs.declared.script.Item.{Item}
 use Rattle.pts_tree.specs.declared.script.Item.TheVariants as items
 use Rattle.pts_rules.specs.Known.{Scope, natural, number}
-use Rattle.pts_rules.specs.Limits.{cells, is_statement}
+use Rattle.pts_rules.specs.Limits.{cells, is_large, is_statement, is_too_deep, is_too_many}
 use Rattle.pts_rules.specs.Mistyped.{item_right}
 use Rattle.pts_rules.specs.Scopes.{known}
-use Rattle.pts_limits.specs.Rules.{large, too_deep, too_many}
 use Rattle.pts_program.specs.declared.standing.Standing.{Standing}
 
 -- this is what these items leave
@@ -18,18 +17,18 @@ pub record IsStanding (before : List Item) (standing : Standing) : Type 0 where
 -- an item that is right and within the limits, and so may be declared
 pub record IsAcceptable (standing : Standing) (x : Item) : Type 0 where
   pub right : IsTrue (item_right standing.scope x)
-  pub shallow : too_deep standing.scope x ≡ false
-  pub few : too_many standing.scope standing.statements standing.cells x ≡ false
+  pub shallow : is_too_deep standing.scope x ≡ false
+  pub few : is_too_many standing.scope standing.statements standing.cells x ≡ false
 
 -- a function of too many parameters or too large a size
 abbrev pub is_large_function : Scope → Item → Bool
-is_large_function scope (items.Function x) = large scope x
+is_large_function scope (items.Function x) = is_large scope x
 is_large_function scope x = false
 
 -- an item that is right, and whose signature is small if it is a function
 pub record IsDeclarable (scope : Scope) (x : Item) : Type 0 where
   pub right : IsTrue (item_right scope x)
-  pub shallow : too_deep scope x ≡ false
+  pub shallow : is_too_deep scope x ≡ false
   pub few : is_large_function scope x ≡ false
 
 -- the cells of the array that an item declares

@@ -9,13 +9,13 @@ ghost use Rattle.pts_program.specs.Verdicts.{IsVerdict};
 
 use crate::fault::{BuildFault, Rule, fault_of};
 use crate::standing::Standing;
-use pts_indices::is_not_affine;
+use pts_bounds::is_not_affine;
 use pts_kinds::is_right;
 use pts_limits::{
     has_backward_range, has_bad_identity, has_bad_step, is_too_deep, is_too_many, lengths_differ,
 };
 use pts_names::{declares_twice, uses_unknown};
-use pts_reaches::first_out;
+use pts_bounds::first_out;
 use pts_rules::Scope;
 use pts_tree::Item;
 use pts_types::NoMemory;

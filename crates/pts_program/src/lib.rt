@@ -21,4 +21,4 @@ pub use laws::{
 pub use program::Program;
 pub use pts_code::FunctionInfo;
 pub use pts_points::{Branch, CallInfo, PointForm, PointInfo};
-pub use pts_resolve::{BlockInfo, CallText};
+pub use pts_constants::{BlockInfo, CallText};

@@ -4,7 +4,7 @@ ghost use Rattle.std.specs.Prelude.{◌≡◌, [], ◌∷◌, false, ◌++◌, m
 ghost use Rattle.pts_tree.specs.declared.script.Item.TheVariants as items;
 ghost use Rattle.pts_points.specs.Points as points;
 ghost use Rattle.pts_rules.specs.Mistyped.{item_right};
-ghost use Rattle.pts_limits.specs.Rules.{large};
+ghost use Rattle.pts_rules.specs.Limits.{is_large};
 ghost use Rattle.pts_program.specs.Lists as spec;
 ghost use Rattle.pts_program.specs.Standings.{is_large_function, IsDeclarable};
 
@@ -12,7 +12,7 @@ use crate::info::{ArrayInfo, StatementInfo};
 use crate::lengths::length_of;
 use pts_code::{Codes, FunctionInfo};
 use pts_points::{CallInfo, PointInfo, add_points};
-use pts_resolve::{BlockInfo, CallText, add_blocks, add_texts, copy_name, resolve_expr};
+use pts_constants::{BlockInfo, CallText, add_blocks, add_texts, copy_name, resolve_expr};
 use pts_rules::Scope;
 use pts_starts::start_cells;
 use pts_tree::{ArrayDecl, FunctionDecl, Item, Name, Param};
@@ -122,7 +122,7 @@ fn push_function(
     function: &FunctionDecl,
     functions: &mut Codes,
 ) -> Result<(), NoMemory>
-    requires { large scope.now function.now ≡ false }
+    requires { is_large scope.now function.now ≡ false }
     ensures { OnOk result (functions.new ≡ functions.old ++ spec.functions_of scope.now (items.Function function.now)) }
 {
     let info = function_info(alloc, scope, function).map_err(|_| NoMemory)?;

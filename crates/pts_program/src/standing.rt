@@ -6,7 +6,6 @@ ghost use Rattle.pts_tree.specs.declared.script.Item.TheVariants as items;
 ghost use Rattle.pts_rules.specs.Mistyped.{item_right};
 ghost use Rattle.pts_rules.specs.Limits as limits;
 ghost use Rattle.pts_rules.specs.Scopes as spec;
-ghost use Rattle.pts_limits.specs.Rules as scoped;
 ghost use Rattle.pts_program.specs.Standings.{cells_in, IsAcceptable, IsDeclarable, IsStanding};
 
 use crate::lengths::length_of;
@@ -64,8 +63,8 @@ fn param_kinds(alloc: Global, function: &FunctionDecl) -> Result<Items<Kind>, Al
 }
 
 fn signature(alloc: Global, scope: &Scope, function: &FunctionDecl) -> Result<Signature, AllocError>
-    requires shallow { scoped.too_deep scope.now (items.Function function.now) ≡ false }
-    requires few { scoped.large scope.now function.now ≡ false }
+    requires shallow { limits.is_too_deep scope.now (items.Function function.now) ≡ false }
+    requires few { limits.is_large scope.now function.now ≡ false }
     ensures { IfOk result (λ s. s ≡ spec.signature scope.now function.now) }
 {
     Ok(Signature {
@@ -77,8 +76,8 @@ fn signature(alloc: Global, scope: &Scope, function: &FunctionDecl) -> Result<Si
 }
 
 fn enter_function(alloc: Global, scope: &mut Scope, function: &FunctionDecl) -> Result<(), NoMemory>
-    requires shallow { scoped.too_deep scope.old (items.Function function.now) ≡ false }
-    requires few { scoped.large scope.old function.now ≡ false }
+    requires shallow { limits.is_too_deep scope.old (items.Function function.now) ≡ false }
+    requires few { limits.is_large scope.old function.now ≡ false }
     ensures { OnOk result (scope.new ≡ spec.after scope.old (items.Function function.now)) }
 {
     let signature = signature(alloc, scope, function).map_err(|_| NoMemory)?;

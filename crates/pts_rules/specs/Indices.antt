@@ -26,7 +26,6 @@ use Rattle.pts_tree.specs.declared.script.Item.{Item}
 use Rattle.pts_rules.specs.Parts.{Name, Simple, Throw, Assign, Call, Loop, statements}
 use Rattle.pts_rules.specs.Known.{Scope, array_of, constant_of, has, holds, number, natural}
 use Rattle.pts_rules.specs.Counts.{step_of, loop_positions}
-use Rattle.pts_rules.specs.Scopes.{known}
 
 -- ---- indices
 
@@ -140,8 +139,8 @@ has_not_affine scope (Loop x) = list_any (index_not_affine scope (Some x.index))
 has_not_affine scope _ = false
 
 -- NotAffine: an index is not made of numbers, constants, the loop index, `+`, `-`, `*` and parentheses as a line
-abbrev pub is_not_affine : List Item → Item → Bool
-is_not_affine before x = list_any (has_not_affine (known before)) (statements x)
+abbrev pub is_not_affine : Scope → Item → Bool
+is_not_affine scope x = list_any (has_not_affine scope) (statements x)
 
 -- ---- where cells lie
 
@@ -200,5 +199,5 @@ reaches scope (Call x) = range_reach scope x.first ++ reach_of (range_reach scop
 reaches scope (Loop x) = flat_map (clause_reach scope) x.clauses ++ flat_map (place_reach scope (loop_line scope x) (Some x.index)) (flat_map places x.body)
 
 -- OutOfRange at p: at position p the item is at a cell that an array does not have
-abbrev pub is_out_at : List Item → Item → ℕ → Bool
-is_out_at before x p = list_any (leaves p) (flat_map (reaches (known before)) (statements x))
+abbrev pub is_out_at : Scope → Item → ℕ → Bool
+is_out_at scope x p = list_any (leaves p) (flat_map (reaches scope) (statements x))

@@ -33,7 +33,7 @@ use Rattle.pts_rules.specs.Parts.{Name, Simple, Throw, Assign, Call, Loop, state
 use Rattle.pts_rules.specs.declared.meaning.Meaning.TheVariants.{Value, View}
 use Rattle.pts_rules.specs.Known.{Entry, Scope, function_of, kind_of_array, view_of, has, holds, lies_in, is_place, is_number, same_kind, sum_is, natural, number, val_fits}
 use Rattle.pts_rules.specs.Kinds.{fits, let_kind}
-use Rattle.pts_rules.specs.Scopes.{known, param_entry}
+use Rattle.pts_rules.specs.Scopes.{param_entry}
 
 -- ---- what stands in calls and in heads of loops
 
@@ -211,6 +211,6 @@ item_right scope (items.Function x) = fits false (map param_entry x.params ++ sc
 item_right scope (items.Print x) = is_some (kind_of_array scope x)
 item_right scope x = list_all (statement_right scope) (statements x)
 
--- Mistyped: an item that is not right where the names of the earlier items are known
-abbrev pub is_mistyped : List Item → Item → Bool
-is_mistyped before x = not (item_right (known before) x)
+-- Mistyped: an item that is not right in its scope
+abbrev pub is_mistyped : Scope → Item → Bool
+is_mistyped scope x = not (item_right scope x)

@@ -1,5 +1,5 @@
 -- BadStep, BackwardRange, LengthsDiffer and BadIdentity.
-use Rattle.std.specs.Prelude.{Bool, false, not, ◌&&◌, ◌||◌, is_some, is_none, List, length, ℤ, pos, ◌-ℤ◌, int_lt}
+use Rattle.std.specs.Prelude.{Bool, false, not, ◌&&◌, ◌||◌, is_some, is_none, length, ℤ, pos, ◌-ℤ◌, int_lt}
 use Rattle.std.specs.List.{list_any}
 use Rattle.std.specs.Ordering.{int_eq}
 use Rattle.pts_tree.specs.declared.sum.Range.{Range}
@@ -13,7 +13,6 @@ use Rattle.pts_tree.specs.declared.script.Item.{Item}
 use Rattle.pts_tree.specs.declared.script.Item.TheVariants as items
 use Rattle.pts_rules.specs.Parts.{Simple, Call, Loop, statements}
 use Rattle.pts_rules.specs.Known.{Scope, has, number}
-use Rattle.pts_rules.specs.Scopes.{known}
 
 -- the step of a loop from a to b is 0 or leads away from b
 abbrev pub is_wrong_step : ℤ → ℤ → ℤ → Bool
@@ -24,8 +23,8 @@ steps_badly scope (Loop x) = has (λ step. is_wrong_step (number scope x.low) (n
 steps_badly scope _ = false
 
 -- BadStep: a loop's written step is 0 or leads away from its end
-abbrev pub is_bad_step : List Item → Item → Bool
-is_bad_step before x = list_any (steps_badly (known before)) (statements x)
+abbrev pub is_bad_step : Scope → Item → Bool
+is_bad_step scope x = list_any (steps_badly scope) (statements x)
 
 -- a range that ends before its start
 abbrev pub is_backward : Scope → Range → Bool
@@ -37,8 +36,8 @@ goes_backward scope (Loop x) = is_none x.step && int_lt (number scope x.high) (n
 goes_backward scope _ = false
 
 -- BackwardRange: a range, or a loop without a step, ends before its start
-abbrev pub is_backward_range : List Item → Item → Bool
-is_backward_range before x = list_any (goes_backward (known before)) (statements x)
+abbrev pub is_backward_range : Scope → Item → Bool
+is_backward_range scope x = list_any (goes_backward scope) (statements x)
 
 -- how many elements a range has
 abbrev pub extent : Scope → Range → ℤ
@@ -58,9 +57,9 @@ list_differs scope x (starts.List xs) = not (int_eq (pos (length xs)) (number sc
 list_differs scope x _ = false
 
 -- LengthsDiffer: a list is not as long as its array, or the ranges of a call are not of one length
-abbrev pub lengths_differ : List Item → Item → Bool
-lengths_differ before (items.Array x) = list_differs (known before) x x.start
-lengths_differ before x = list_any (differs_in_length (known before)) (statements x)
+abbrev pub lengths_differ : Scope → Item → Bool
+lengths_differ scope (items.Array x) = list_differs scope x x.start
+lengths_differ scope x = list_any (differs_in_length scope) (statements x)
 
 -- an operation of the table has no identity, and a function has one
 abbrev pub identity_wrong : Clause → Bool
@@ -72,5 +71,5 @@ has_wrong_identity (Loop x) = list_any identity_wrong x.clauses
 has_wrong_identity _ = false
 
 -- BadIdentity: a clause with one of the seven operations has an identity, or one with a function has none
-abbrev pub is_bad_identity : List Item → Item → Bool
-is_bad_identity before x = list_any has_wrong_identity (statements x)
+abbrev pub is_bad_identity : Scope → Item → Bool
+is_bad_identity scope x = list_any has_wrong_identity (statements x)

@@ -1,0 +1,9 @@
+pub mod Chained
+pub mod Elements
+pub mod Leaving
+pub mod Reaching
+pub mod Rightness
+pub mod Somewhere
+pub mod Soonest
+pub mod Statements
+pub mod TaskWeights

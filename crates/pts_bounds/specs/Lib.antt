@@ -1,0 +1,3 @@
+pub mod Affines
+pub mod Firsts
+pub mod Walks

@@ -1,3 +1,0 @@
-pub mod Chained
-pub mod Scoped
-pub mod Somewhere

@@ -1,2 +1,0 @@
-pub mod Affines
-pub mod AtScope

@@ -1,3 +1,0 @@
-pub mod AtScope
-pub mod Firsts
-pub mod Walks

@@ -1,6 +1,0 @@
-use Rattle.pts_resolve.specs.Resolved as spec
-use Rattle.pts_resolve.proofs.Turns.{Copied}
-use Rattle.pts_resolve.proofs.blocks.«+resolve_block».Given as goal
-
-abbrev pub invariant-resolve_tasks-loop-stmt : goal.invariant-resolve_tasks-loop-stmt
-invariant-resolve_tasks-loop-stmt l = Copied (spec.resolved_task l.scope) l.stmts l.stmt-index l.done

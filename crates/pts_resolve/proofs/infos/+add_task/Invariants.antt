@@ -1,6 +1,0 @@
-use Rattle.pts_resolve.specs.Blocks as spec
-use Rattle.pts_resolve.proofs.Additions.{Added}
-use Rattle.pts_resolve.proofs.infos.«+add_task».Given as goal
-
-abbrev pub invariant-add_tasks-loop-stmt : goal.invariant-add_tasks-loop-stmt
-invariant-add_tasks-loop-stmt l = Added (spec.task_infos l.scope l.item) l.stmts l.stmt-index l.initial.blocks l.blocks
