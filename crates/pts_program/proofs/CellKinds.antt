@@ -19,11 +19,10 @@ use Rattle.pts_rules.specs.Known.{Scope, natural, number, same_kind, val_fits}
 use Rattle.pts_rules.specs.Mistyped.{iota_right, start_right}
 use Rattle.pts_rules.specs.Scopes.{known}
 use Rattle.pts_starts.specs.Starts.{iota_value, mix_value, start_cells, value_of_val, value_with}
-use Rattle.pts_program.specs.declared.fault.Rule.TheVariants.{Mistyped}
 use Rattle.pts_program.specs.declared.info.ArrayInfo.{ArrayInfo}
 use Rattle.pts_program.specs.Lists.{arrays_of}
 use Rattle.pts_program.specs.Ranges.{HasKind, IsOfKind}
-use Rattle.pts_program.proofs.SoundStatements.{IsClean, on}
+use Rattle.pts_program.proofs.Keeping.{Keeps}
 
 with_kind : (kind : Kind) (z : ℤ) → HasKind kind (value_with kind z)
 with_kind kinds.I64 z = refl
@@ -60,19 +59,19 @@ start_kinds scope kind length (starts.Iota x y) h =
 start_kinds scope kind length (starts.Mix x) h =
     All-map (HasKind kind) (mix_value (natural (number scope x))) (range_with_len 0 length) (λ k d within. is_u64 kind (and_parts _ _ h).0)
 
-array_kinds : (before : List Item) (x : ArrayDecl) → IsClean before (items.Array x) → All IsOfKind (arrays_of (known before) (items.Array x))
-array_kinds before x clean =
-    All-cons IsOfKind _ [] (start_kinds (known before) x.kind _ x.start (and_parts _ _ (on _ (clean Mistyped))).1) (All-nil IsOfKind)
+array_kinds : (before : List Item) (x : ArrayDecl) → Keeps before (items.Array x) → All IsOfKind (arrays_of (known before) (items.Array x))
+array_kinds before x keeps =
+    All-cons IsOfKind _ [] (start_kinds (known before) x.kind _ x.start (and_parts _ _ (keeps.right)).1) (All-nil IsOfKind)
 
-new_kinds : (before : List Item) (x : Item) → IsClean before x → All IsOfKind (arrays_of (known before) x)
-new_kinds before (items.Const x) clean = All-nil IsOfKind
-new_kinds before (items.Array x) clean = array_kinds before x clean
-new_kinds before (items.Function x) clean = All-nil IsOfKind
-new_kinds before (items.Call x) clean = All-nil IsOfKind
-new_kinds before (items.Loop x) clean = All-nil IsOfKind
-new_kinds before (items.Block x) clean = All-nil IsOfKind
-new_kinds before (items.Print x) clean = All-nil IsOfKind
+new_kinds : (before : List Item) (x : Item) → Keeps before x → All IsOfKind (arrays_of (known before) x)
+new_kinds before (items.Const x) keeps = All-nil IsOfKind
+new_kinds before (items.Array x) keeps = array_kinds before x keeps
+new_kinds before (items.Function x) keeps = All-nil IsOfKind
+new_kinds before (items.Call x) keeps = All-nil IsOfKind
+new_kinds before (items.Loop x) keeps = All-nil IsOfKind
+new_kinds before (items.Block x) keeps = All-nil IsOfKind
+new_kinds before (items.Print x) keeps = All-nil IsOfKind
 
 -- one item more
-pub kinds_more : (before : List Item) (x : Item) (arrays : List ArrayInfo) → IsClean before x → All IsOfKind arrays → All IsOfKind (arrays ++ arrays_of (known before) x)
-kinds_more before x arrays clean h = All-append IsOfKind arrays (arrays_of (known before) x) h (new_kinds before x clean)
+pub kinds_more : (before : List Item) (x : Item) (arrays : List ArrayInfo) → Keeps before x → All IsOfKind arrays → All IsOfKind (arrays ++ arrays_of (known before) x)
+kinds_more before x arrays keeps h = All-append IsOfKind arrays (arrays_of (known before) x) h (new_kinds before x keeps)

@@ -27,16 +27,16 @@ use Rattle.pts_points.specs.Inside.{HasRoom, IsInside, lengths}
 use Rattle.pts_points.specs.Inside as scoped
 use Rattle.pts_points.specs.Points.{points_of, small}
 use Rattle.pts_points.proofs.SoundItems.{points_inside}
-use Rattle.pts_program.specs.declared.fault.Rule.TheVariants.{Mistyped, TooMany, LengthsDiffer}
 use Rattle.pts_program.specs.declared.info.ArrayInfo.{ArrayInfo}
 use Rattle.pts_program.specs.declared.lists.Lists.{Lists}
-use Rattle.pts_program.specs.Faults.{Breaks, BreaksAt, IsSound as IsScriptSound}
+use Rattle.pts_program.specs.Faults.{IsClean, IsCleanAt, IsSound as IsScriptSound}
 use Rattle.pts_program.specs.Lists.{arrays_of, no_lists, with_item, with_items, IsProgram}
 use Rattle.pts_program.specs.Ranges.{IsInRange, IsOfKind, length_at}
 use Rattle.pts_program.proofs.CellKinds.{kinds_more}
 use Rattle.pts_program.proofs.Declared.{cells_after, known_more}
-use Rattle.pts_program.proofs.Decisions.{breaks-at}
-use Rattle.pts_program.proofs.SoundStatements.{IsClean, on, off, sound_statements}
+use Rattle.pts_program.proofs.Decisions.{clean-at}
+use Rattle.pts_program.proofs.Keeping.{Keeps, keeps_all}
+use Rattle.pts_program.proofs.SoundStatements.{sound_statements}
 
 -- ---- lengths of arrays
 
@@ -131,20 +131,20 @@ Sizes scope x arrays = map size (arrays ++ arrays_of scope x) ≡ lengths (after
 no_array : (scope next : Scope) (arrays : List ArrayInfo) → map size arrays ≡ lengths scope → lengths next ≡ lengths scope → map size (arrays ++ []) ≡ lengths next
 no_array scope next arrays sizes same = ap (map size) (append-nil arrays) ∙ sizes ∙ sym same
 
-sizes_more : (before : List Item) (x : Item) (arrays : List ArrayInfo) → IsClean before x → map size arrays ≡ lengths (known before) → Sizes (known before) x arrays
-sizes_more before (items.Const x) arrays clean sizes = no_array (known before) (after (known before) (items.Const x)) arrays sizes (append-nil (lengths (known before)))
-sizes_more before (items.Array x) arrays clean sizes =
-    let right : (sum_is (known before) is_place x.length && start_right (known before) x.kind (natural (number (known before) x.length)) x.start) ≡ true = on _ (clean Mistyped) in
+sizes_more : (before : List Item) (x : Item) (arrays : List ArrayInfo) → Keeps before x → map size arrays ≡ lengths (known before) → Sizes (known before) x arrays
+sizes_more before (items.Const x) arrays keeps sizes = no_array (known before) (after (known before) (items.Const x)) arrays sizes (append-nil (lengths (known before)))
+sizes_more before (items.Array x) arrays keeps sizes =
+    let right : (sum_is (known before) is_place x.length && start_right (known before) x.kind (natural (number (known before) x.length)) x.start) ≡ true = keeps.right in
     let place : sum_is (known before) is_place x.length ≡ true = (and_parts _ _ right).0 in
     let count : ℤ = pos (length (start_cells (known before) x.kind (natural (number (known before) x.length)) x.start)) in
     map-append size arrays (arrays_of (known before) (items.Array x))
     ∙ ap (λ ls. ls ++ count ∷ []) sizes
-    ∙ ap (λ z. lengths (known before) ++ z ∷ []) (start_length (known before) x place (off _ (clean LengthsDiffer)))
-sizes_more before (items.Function x) arrays clean sizes = no_array (known before) (after (known before) (items.Function x)) arrays sizes (append-nil (lengths (known before)))
-sizes_more before (items.Call x) arrays clean sizes = no_array (known before) (known before) arrays sizes refl
-sizes_more before (items.Loop x) arrays clean sizes = no_array (known before) (known before) arrays sizes refl
-sizes_more before (items.Block x) arrays clean sizes = no_array (known before) (known before) arrays sizes refl
-sizes_more before (items.Print x) arrays clean sizes = no_array (known before) (known before) arrays sizes refl
+    ∙ ap (λ z. lengths (known before) ++ z ∷ []) (start_length (known before) x place (keeps.lengths))
+sizes_more before (items.Function x) arrays keeps sizes = no_array (known before) (after (known before) (items.Function x)) arrays sizes (append-nil (lengths (known before)))
+sizes_more before (items.Call x) arrays keeps sizes = no_array (known before) (known before) arrays sizes refl
+sizes_more before (items.Loop x) arrays keeps sizes = no_array (known before) (known before) arrays sizes refl
+sizes_more before (items.Block x) arrays keeps sizes = no_array (known before) (known before) arrays sizes refl
+sizes_more before (items.Print x) arrays keeps sizes = no_array (known before) (known before) arrays sizes refl
 
 abbrev AreShort : Scope → Type 0
 AreShort scope = All (λ z. z ≤ℤ pos (2 ^ 20)) (lengths scope)
@@ -156,19 +156,18 @@ within_limit (negsuc n) held h = omega (arith, ints)
 same_short : (scope : Scope) → AreShort scope → All (λ z. z ≤ℤ pos (2 ^ 20)) (lengths scope ++ [])
 same_short scope h = subst (All (λ z. z ≤ℤ pos (2 ^ 20))) (sym (append-nil (lengths scope))) h
 
-short_more : (before : List Item) (x : Item) → IsClean before x → AreShort (known before) → AreShort (after (known before) x)
-short_more before (items.Const x) clean h = same_short (known before) h
-short_more before (items.Array x) clean h =
-    let few : nat_lt (2 ^ 20) (cells (after (known before) (items.Array x))) ≡ false = off _ (clean TooMany) in
-    let sum = cells_after (known before) (items.Array x) in
+short_more : (before : List Item) (x : Item) → Keeps before x → AreShort (known before) → AreShort (after (known before) x)
+short_more before (items.Const x) keeps h = same_short (known before) h
+short_more before (items.Array x) keeps h =
+    let few : nat_lt (2 ^ 20) (natural (number (known before) x.length) + cells (known before)) ≡ false = keeps.few in
     All-append (λ z. z ≤ℤ pos (2 ^ 20)) (lengths (known before)) (number (known before) x.length ∷ []) h
     (All-cons (λ z. z ≤ℤ pos (2 ^ 20)) (number (known before) x.length) []
-    (within_limit (number (known before) x.length) (cells (known before)) (grind (arith, nat_tests, few, sum))) (All-nil (λ z. z ≤ℤ pos (2 ^ 20))))
-short_more before (items.Function x) clean h = same_short (known before) h
-short_more before (items.Call x) clean h = h
-short_more before (items.Loop x) clean h = h
-short_more before (items.Block x) clean h = h
-short_more before (items.Print x) clean h = h
+    (within_limit (number (known before) x.length) (cells (known before)) (grind (arith, nat_tests, few))) (All-nil (λ z. z ≤ℤ pos (2 ^ 20))))
+short_more before (items.Function x) keeps h = same_short (known before) h
+short_more before (items.Call x) keeps h = h
+short_more before (items.Loop x) keeps h = h
+short_more before (items.Block x) keeps h = h
+short_more before (items.Print x) keeps h = h
 
 few_more : (scope : Scope) (x : Item) (n : ℕ) → length (lengths scope) ≤ n → length (lengths (after scope x)) ≤ n + 1
 few_more scope (items.Const x) n h = let e = length-append (lengths scope) [] in omega (arith, e, h)
@@ -179,53 +178,52 @@ few_more scope (items.Loop x) n h = omega (arith, h)
 few_more scope (items.Block x) n h = omega (arith, h)
 few_more scope (items.Print x) n h = omega (arith, h)
 
-pub inside_more : (before : List Item) (x : Item) (lists : Lists) → IsClean before x → length before < 2 ^ 32 → AreInside before lists
+pub inside_more : (before : List Item) (x : Item) (lists : Lists) → Keeps before x → length before < 2 ^ 32 → AreInside before lists
     → AreInside (before ++ x ∷ []) (with_item (known before) (length before + 1) lists x)
-inside_more before x lists clean room h =
+inside_more before x lists keeps room h =
     let next = known_more before x in
     let has_room : HasRoom (known before) = record { short = h.short; few = let f = h.few in omega (arith, f, room) } in
     let new = points_of (known before) (length before + 1) (small (length lists.calls)) x in
-    let new_inside : All (IsInside (known before)) new = points_inside (known before) has_room (length before + 1) (small (length lists.calls)) x (sound_statements before x clean) in
+    let new_inside : All (IsInside (known before)) new = points_inside (known before) has_room (length before + 1) (small (length lists.calls)) x (sound_statements before x keeps) in
     record {
-      sizes = sizes_more before x lists.arrays clean h.sizes ∙ ap lengths (sym next);
-      short = subst AreShort (sym next) (short_more before x clean h.short);
+      sizes = sizes_more before x lists.arrays keeps h.sizes ∙ ap lengths (sym next);
+      short = subst AreShort (sym next) (short_more before x keeps h.short);
       few = let f = few_more (known before) x (length before) h.few in let e = length-append before (x ∷ []) in let s = ap (λ sc. length (lengths sc)) next in omega (arith, f, e, s);
       points =
           All-append (IsInRange (lists.arrays ++ arrays_of (known before) x)) lists.points new
           (all_kept lists.arrays (arrays_of (known before) x) lists.points h.points)
           (all_kept lists.arrays (arrays_of (known before) x) new (all_in_range (known before) lists.arrays new h.sizes new_inside));
-      kinds = kinds_more before x lists.arrays clean h.kinds;
+      kinds = kinds_more before x lists.arrays keeps h.kinds;
     }
 
 -- ---- all items
 
 -- each of these items breaks no rule behind those before it
-abbrev pub AreClean : List Item → List Item → Type 0
-AreClean before [] = Unit {0}
-AreClean before (x ∷ rest) = IsClean before x × AreClean (before ++ x ∷ []) rest
+abbrev pub AllKeep : List Item → List Item → Type 0
+AllKeep before [] = Unit {0}
+AllKeep before (x ∷ rest) = Keeps before x × AllKeep (before ++ x ∷ []) rest
 
 item_between : (before : List Item) (x : Item) (rest : List Item) → slice_get (before ++ x ∷ rest) (length before) ≡ Some x
 item_between [] x rest = refl
 item_between (y ∷ before) x rest = item_between before x rest
 
-pub clean_from : (script : Script) (before rest : List Item) → script.items ≡ before ++ rest → IsScriptSound script → AreClean before rest
-clean_from script before [] is sound = tt
-clean_from script before (x ∷ rest) is sound = (
-  λ rule broken.
-      let here : slice_get script.items (length before) ≡ Some x = ap (λ xs. slice_get xs (length before)) is ∙ item_between before x rest in
-      let front : take (length before) script.items ≡ before = ap (take (length before)) is ∙ take-append_seam before (x ∷ rest) in
-      sound (length before + 1) rule (subst (λ n. BreaksAt script n rule) (omega arith) ((breaks-at script (length before) x rule here).1 (subst (λ xs. Breaks rule xs x) (sym front) broken))),
-  clean_from script (before ++ x ∷ []) rest (is ∙ sym (append_assoc before (x ∷ []) rest)) sound,
-)
+pub all_keep : (script : Script) (before rest : List Item) → script.items ≡ before ++ rest → IsScriptSound script → AllKeep before rest
+all_keep script before [] is sound = tt
+all_keep script before (x ∷ rest) is sound =
+    let here : slice_get script.items (length before) ≡ Some x = ap (λ xs. slice_get xs (length before)) is ∙ item_between before x rest in
+    let front : take (length before) script.items ≡ before = ap (take (length before)) is ∙ take-append_seam before (x ∷ rest) in (
+      keeps_all script.version before x (subst (λ xs. IsClean script.version xs x) front ((clean-at script (length before) x here).0 (sound (length before + 1)))),
+      all_keep script (before ++ x ∷ []) rest (is ∙ sym (append_assoc before (x ∷ []) rest)) sound,
+    )
 
-inside_all : (before rest : List Item) (lists : Lists) → AreClean before rest → length before + length rest ≤ 2 ^ 32 → AreInside before lists
+inside_all : (before rest : List Item) (lists : Lists) → AllKeep before rest → length before + length rest ≤ 2 ^ 32 → AreInside before lists
     → AreInside (before ++ rest) (with_items before lists rest)
-inside_all before [] lists clean room h = subst (λ xs. AreInside xs lists) (sym (append-nil before)) h
-inside_all before (x ∷ rest) lists clean room h =
-    let more = inside_more before x lists clean.0 (omega (arith, room)) h in
+inside_all before [] lists keeps room h = subst (λ xs. AreInside xs lists) (sym (append-nil before)) h
+inside_all before (x ∷ rest) lists keeps room h =
+    let more = inside_more before x lists keeps.0 (omega (arith, room)) h in
     let size = length-append before (x ∷ []) in
     subst (λ xs. AreInside xs (with_items (before ++ x ∷ []) (with_item (known before) (length before + 1) lists x) rest)) (append_assoc before (x ∷ []) rest)
-    (inside_all (before ++ x ∷ []) rest (with_item (known before) (length before + 1) lists x) clean.1 (omega (arith, room, size)) more)
+    (inside_all (before ++ x ∷ []) rest (with_item (known before) (length before + 1) lists x) keeps.1 (omega (arith, room, size)) more)
 
 none_inside : AreInside [] no_lists
 unfolding known
@@ -235,7 +233,7 @@ pub program_inside : (lists : Lists) → IsProgram lists → (before : List Item
 program_inside lists h = (
   h.script.items,
   subst (AreInside h.script.items) (sym h.made)
-      (inside_all [] h.script.items no_lists (clean_from h.script [] h.script.items refl h.sound) (omega (arith, h.few)) none_inside),
+      (inside_all [] h.script.items no_lists (all_keep h.script [] h.script.items refl h.sound) (omega (arith, h.few)) none_inside),
 )
 
 -- every point of a program is in range

@@ -4,10 +4,10 @@ pub mod Clips
 pub mod Decisions
 pub mod FirstFaults
 pub mod Insides
+pub mod Keeping
 pub mod SoundFunctions
 pub mod SoundStatements
 pub mod UseForms
-pub mod Verdicts
 pub mod Declared
 pub mod Findings
 pub mod Ways

@@ -17,14 +17,13 @@ use Rattle.pts_rules.specs.Parts.{Name, param_names}
 use Rattle.pts_rules.specs.Scopes.{after, known, param_entry, signature}
 use Rattle.pts_constants.specs.Resolved.{resolved_expr}
 use Rattle.pts_code.specs.declared.function.FunctionInfo.{FunctionInfo}
-use Rattle.pts_program.specs.declared.fault.Rule.TheVariants.{Mistyped}
 use Rattle.pts_program.specs.declared.lists.Lists.{Lists}
 use Rattle.pts_program.specs.Callings.{CallEarlier, is_one_of, uses_only}
 use Rattle.pts_program.specs.Lists.{functions_of, no_lists, with_item, with_items, IsProgram}
 use Rattle.pts_program.proofs.Callings.{AreThese, uses_these}
 use Rattle.pts_program.proofs.Declared.{known_more}
-use Rattle.pts_program.proofs.Insides.{AreClean, clean_from}
-use Rattle.pts_program.proofs.SoundStatements.{IsClean, on}
+use Rattle.pts_program.proofs.Insides.{AllKeep, all_keep}
+use Rattle.pts_program.proofs.Keeping.{Keeps}
 
 abbrev names_of : List FunctionInfo → List Name
 names_of functions = map (λ f. f.name) functions
@@ -127,35 +126,35 @@ earlier_more earlier (g ∷ fs) f h own = (
 same_functions : (scope next : Scope) (functions : List FunctionInfo) → AreListed next functions → CallEarlier [] functions → AreCallable next (functions ++ [])
 same_functions scope next functions names earlier = subst (AreCallable next) (sym (append-nil functions)) (record { names = names; earlier = earlier })
 
-callable_after : (before : List Item) (x : Item) (functions : List FunctionInfo) → IsClean before x → AreCallable (known before) functions
+callable_after : (before : List Item) (x : Item) (functions : List FunctionInfo) → Keeps before x → AreCallable (known before) functions
     → AreCallable (after (known before) x) (functions ++ functions_of (known before) x)
-callable_after before (items.Const x) functions clean h =
+callable_after before (items.Const x) functions keeps h =
     same_functions (known before) (after (known before) (items.Const x)) functions
     (other_listed (known before) functions x.name (Constant (number (known before) x.value)) refl refl h.names) h.earlier
-callable_after before (items.Array x) functions clean h =
+callable_after before (items.Array x) functions keeps h =
     same_functions (known before) (after (known before) (items.Array x)) functions
     (other_listed (known before) functions x.name (Array x.kind (number (known before) x.length)) refl refl h.names) h.earlier
-callable_after before (items.Function x) functions clean h =
+callable_after before (items.Function x) functions keeps h =
     let scope = known before in
     let f : FunctionInfo = record { name = x.name; params = x.params; kind = x.kind; body = resolved_expr scope x.body } in
     record {
       names = function_listed scope functions f (signature scope x) h.names;
       earlier =
           earlier_more [] functions f h.earlier
-          (uses_these (map param_entry x.params ++ scope) scope (param_names x.params) (names_of functions) (these x.params scope functions h.names) x.kind x.body (on _ (clean Mistyped)));
+          (uses_these (map param_entry x.params ++ scope) scope (param_names x.params) (names_of functions) (these x.params scope functions h.names) x.kind x.body (keeps.right));
     }
-callable_after before (items.Call x) functions clean h = same_functions (known before) (known before) functions h.names h.earlier
-callable_after before (items.Loop x) functions clean h = same_functions (known before) (known before) functions h.names h.earlier
-callable_after before (items.Block x) functions clean h = same_functions (known before) (known before) functions h.names h.earlier
-callable_after before (items.Print x) functions clean h = same_functions (known before) (known before) functions h.names h.earlier
+callable_after before (items.Call x) functions keeps h = same_functions (known before) (known before) functions h.names h.earlier
+callable_after before (items.Loop x) functions keeps h = same_functions (known before) (known before) functions h.names h.earlier
+callable_after before (items.Block x) functions keeps h = same_functions (known before) (known before) functions h.names h.earlier
+callable_after before (items.Print x) functions keeps h = same_functions (known before) (known before) functions h.names h.earlier
 
 -- ---- all items
 
-callable_all : (before rest : List Item) (lists : Lists) → AreClean before rest → AreCallable (known before) lists.functions → CallEarlier [] (with_items before lists rest).functions
-callable_all before [] lists clean h = h.earlier
-callable_all before (x ∷ rest) lists clean h =
-    callable_all (before ++ x ∷ []) rest (with_item (known before) (length before + 1) lists x) clean.1
-    (subst (λ scope. AreCallable scope (lists.functions ++ functions_of (known before) x)) (sym (known_more before x)) (callable_after before x lists.functions clean.0 h))
+callable_all : (before rest : List Item) (lists : Lists) → AllKeep before rest → AreCallable (known before) lists.functions → CallEarlier [] (with_items before lists rest).functions
+callable_all before [] lists keeps h = h.earlier
+callable_all before (x ∷ rest) lists keeps h =
+    callable_all (before ++ x ∷ []) rest (with_item (known before) (length before + 1) lists x) keeps.1
+    (subst (λ scope. AreCallable scope (lists.functions ++ functions_of (known before) x)) (sym (known_more before x)) (callable_after before x lists.functions keeps.0 h))
 
 none_callable : AreCallable (known []) []
 unfolding known
@@ -164,4 +163,4 @@ none_callable = record { names = record { no_values = λ name kind is. none-some
 -- the functions of a program call earlier ones
 pub functions_in_order : (lists : Lists) → IsProgram lists → CallEarlier [] lists.functions
 functions_in_order lists h =
-    subst (λ (l : Lists). CallEarlier [] l.functions) (sym h.made) (callable_all [] h.script.items no_lists (clean_from h.script [] h.script.items refl h.sound) none_callable)
+    subst (λ (l : Lists). CallEarlier [] l.functions) (sym h.made) (callable_all [] h.script.items no_lists (all_keep h.script [] h.script.items refl h.sound) none_callable)

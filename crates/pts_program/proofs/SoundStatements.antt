@@ -16,21 +16,7 @@ use Rattle.pts_rules.specs.Limits.{has_many, is_long, is_statement, points}
 use Rattle.pts_rules.specs.Mistyped.{statement_right}
 use Rattle.pts_rules.specs.Steps.{goes_backward}
 use Rattle.pts_points.specs.Inside.{IsSound}
-use Rattle.pts_program.specs.declared.fault.Rule.{Rule}
-use Rattle.pts_program.specs.declared.fault.Rule.TheVariants.{Mistyped, TooMany, BackwardRange, OutOfRange}
-use Rattle.pts_program.specs.Faults.{Breaks}
-
--- an item breaks none of the rules
-abbrev pub IsClean : List Item → Item → Type 0
-IsClean before x = (rule : Rule) → ¬ Breaks rule before x
-
-pub off : (b : Bool) → ¬ IsTrue b → b ≡ false
-off true h = absurd (h refl)
-off false h = refl
-
-pub on : (b : Bool) → ¬ IsTrue (not b) → b ≡ true
-on true h = refl
-on false h = absurd (h refl)
+use Rattle.pts_program.proofs.Keeping.{Keeps}
 
 stays_apart : (scope : Scope) (p : ℕ) (s : Simple) (ss : List Simple) → list_any (leaves p) (flat_map (reaches scope) (s ∷ ss)) ≡ false
     → (list_any (leaves p) (reaches scope s) ≡ false) × (list_any (leaves p) (flat_map (reaches scope) ss) ≡ false)
@@ -49,18 +35,19 @@ all_sound scope (s ∷ ss) right forward short stays =
 none_long : (before : List Item) (x : Item) → has_many (known before) (count_by is_statement before) x ≡ false → list_any (is_long (known before)) (statements x) ≡ false
 none_long before x h = (or_parts (nat_lt 4096 (count_by is_statement before + 1) || nat_lt 1024 (points x)) (list_any (is_long (known before)) (statements x)) h).1
 
-by_parts : (before : List Item) (x : Item) → IsClean before x → list_all (statement_right (known before)) (statements x) ≡ true → has_many (known before) (count_by is_statement before) x ≡ false
+by_parts : (before : List Item) (x : Item) → Keeps before x → list_all (statement_right (known before)) (statements x) ≡ true → has_many (known before) (count_by is_statement before) x ≡ false
     → All (IsSound (known before)) (statements x)
-by_parts before x clean right few =
-    all_sound (known before) (statements x) right (off _ (clean BackwardRange)) (none_long before x few) (λ p. off _ (λ out. clean OutOfRange (p, out)))
+by_parts before x keeps right few =
+    all_sound (known before) (statements x) right keeps.forward (none_long before x few) keeps.stays
 
 -- the statements of an item that breaks no rule are sound
-pub sound_statements : (before : List Item) (x : Item) → IsClean before x → All (IsSound (known before)) (statements x)
-sound_statements before (items.Const x) clean = All-nil (IsSound (known before))
-sound_statements before (items.Array x) clean = All-nil (IsSound (known before))
-sound_statements before (items.Function x) clean = All-nil (IsSound (known before))
-sound_statements before (items.Print x) clean = All-nil (IsSound (known before))
-sound_statements before (items.Call x) clean = by_parts before (items.Call x) clean (on _ (clean Mistyped)) (off _ (clean TooMany))
-sound_statements before (items.Loop x) clean = by_parts before (items.Loop x) clean (on _ (clean Mistyped)) (off _ (clean TooMany))
-sound_statements before (items.Block x) clean =
-    by_parts before (items.Block x) clean (on _ (clean Mistyped)) (or_parts (list_any (nat_lt 64) (runs x)) (has_many before (items.Block x)) (off _ (clean TooMany))).1
+pub sound_statements : (before : List Item) (x : Item) → Keeps before x → All (IsSound (known before)) (statements x)
+sound_statements before (items.Const x) keeps = All-nil (IsSound (known before))
+sound_statements before (items.Array x) keeps = All-nil (IsSound (known before))
+sound_statements before (items.Function x) keeps = All-nil (IsSound (known before))
+sound_statements before (items.Print x) keeps = All-nil (IsSound (known before))
+sound_statements before (items.Call x) keeps = by_parts before (items.Call x) keeps keeps.right keeps.few
+sound_statements before (items.Loop x) keeps = by_parts before (items.Loop x) keeps keeps.right keeps.few
+sound_statements before (items.Block x) keeps =
+    by_parts before (items.Block x) keeps keeps.right
+    (or_parts (list_any (nat_lt 64) (runs x)) (has_many (known before) (count_by is_statement before) (items.Block x)) keeps.few).1

@@ -1,5 +1,5 @@
 -- The builder on its way through a script.
-use Rattle.std.proofs.Common.{◌≡◌, ℕ, zero, suc, ◌+◌, ◌^◌, ◌<◌, ◌≤◌, inl, inr, List, [], ◌∷◌, ◌++◌, Some, length, take, drop, get_or, slice_get, refl, sym, ap, ◌∙◌, subst, arith}
+use Rattle.std.proofs.Common.{◌≡◌, ℕ, zero, suc, ◌+◌, ◌^◌, ◌<◌, ◌≤◌, ◌⊎◌, inl, inr, List, [], ◌∷◌, ◌++◌, Some, length, take, drop, get_or, slice_get, refl, sym, ap, ◌∙◌, subst, arith}
 use Rattle.std.proofs.lemmas.Bool.{cases_lt}
 use Rattle.std.proofs.lemmas.List.{drop_more, drop_all}
 use Rattle.std.proofs.lemmas.Option.{slice_get-get_or}
@@ -7,14 +7,14 @@ use Rattle.pts_tree.specs.declared.script.Item.{Item}
 use Rattle.pts_tree.specs.declared.script.Script.{Script}
 use Rattle.pts_program.specs.declared.builder.Builder.{Builder}
 use Rattle.pts_program.specs.declared.fault.BuildFault.{BuildFault}
-use Rattle.pts_program.specs.declared.fault.Rule.{Rule}
+use Rattle.pts_program.specs.declared.fault.BuildFault.TheVariants.{NoMemory}
 use Rattle.pts_program.specs.declared.lists.Lists.{Lists}
 use Rattle.pts_program.specs.Building.{HasRoom, IsUnderWay}
-use Rattle.pts_program.specs.Faults.{BreaksAt, IsFaultAt, IsPosition, IsSound, fault_of}
+use Rattle.pts_program.specs.Findings.{IsItemFault}
+use Rattle.pts_program.specs.Faults.{IsClean, IsCleanAt, IsFaultAt, IsFaultOf, IsSound}
 use Rattle.pts_program.specs.Lists.{lists_of, no_lists, with_item, with_items, IsProgram}
 use Rattle.pts_program.specs.Standings.{IsStanding}
-use Rattle.pts_program.specs.Verdicts.{IsClear, IsItemFault}
-use Rattle.pts_program.proofs.Decisions.{breaks-at, holds_at, past-end, places-end}
+use Rattle.pts_program.proofs.Decisions.{clean-at, fault-at, past-end}
 
 -- the item at place n, as an equation
 item_at_place : (xs : List Item) (n : ℕ) (x : Item) → n < length xs → x ≡ get_or xs n x → slice_get xs n ≡ Some x
@@ -36,9 +36,9 @@ length_front (y ∷ xs) zero within = refl
 length_front (y ∷ xs) (suc n) within = ap suc (length_front xs n (omega (arith, within)))
 
 -- item 0 is none
-none_before : (script : Script) (m : ℕ) (rule : Rule) → m ≤ 0 → ¬ BreaksAt script m rule
-none_before script zero rule le = λ h. h
-none_before script (suc m) rule le = absurd (omega (arith, le))
+none_before : (script : Script) (m : ℕ) → m ≤ 0 → IsCleanAt script m
+none_before script zero le = tt
+none_before script (suc m) le = absurd (omega (arith, le))
 
 pub started : (script : Script) (builder : Builder) → IsStanding [] builder.standing → builder.lists ≡ no_lists → builder.items ≡ 0 → builder.standing.statements ≡ 0
     → IsUnderWay script 0 builder
@@ -50,18 +50,18 @@ started script builder standing lists items none = record {
   sound = none_before script;
 }
 
-sound_more : (script : Script) (n : ℕ) (x : Item) → slice_get script.items n ≡ Some x → ((m : ℕ) (rule : Rule) → m ≤ n → ¬ BreaksAt script m rule)
-    → IsClear 0 11 (take n script.items) x → (m : ℕ) (rule : Rule) → m ≤ n + 1 → ¬ BreaksAt script m rule
-sound_more script n x is sound clear m rule le =
+sound_more : (script : Script) (n : ℕ) (x : Item) → slice_get script.items n ≡ Some x → ((m : ℕ) → m ≤ n → IsCleanAt script m)
+    → IsClean script.version (take n script.items) x → (m : ℕ) → m ≤ n + 1 → IsCleanAt script m
+sound_more script n x is sound clean m le =
     elim (cases_lt n m) [
       | inl more ↦
           let e : m ≡ n + 1 = omega (arith, more, le) in
-          λ h. clear rule (omega arith) (places-end rule) ((breaks-at script n x rule is).0 (subst (λ k. BreaksAt script k rule) e h))
-      | inr less ↦ sound m rule less
+          subst (λ k. IsCleanAt script k) (sym e) ((clean-at script n x is).1 clean)
+      | inr less ↦ sound m less
     ]
 
 pub one_more : (script : Script) (n : ℕ) (x : Item) (old new : Builder) → IsUnderWay script n old → n < length script.items → x ≡ get_or script.items n x
-    → IsClear 0 11 (take n script.items) x → IsStanding (take n script.items ++ x ∷ []) new.standing
+    → IsClean script.version (take n script.items) x → IsStanding (take n script.items ++ x ∷ []) new.standing
     → new.lists ≡ with_item old.standing.scope (old.items + 1) old.lists x → new.items ≡ old.items + 1 → new.standing.statements ≤ old.standing.statements + 1
     → IsUnderWay script (n + 1) new
 one_more script n x old new way within is clear standing lists items statements =
@@ -83,7 +83,7 @@ one_more script n x old new way within is clear standing lists items statements 
 -- behind the last item
 pub finished : (script : Script) (n : ℕ) (builder : Builder) → IsUnderWay script n builder → length script.items ≤ n → IsSound script × (builder.lists ≡ lists_of script)
 finished script n builder way past = (
-  λ m rule. elim (cases_lt n m) [ inl more ↦ past-end script m (omega (arith, more, past)) rule | inr less ↦ way.sound m rule less ],
+  λ m. elim (cases_lt n m) [ inl more ↦ past-end script m (omega (arith, more, past)) | inr less ↦ way.sound m less ],
   ap (λ (rest : List Item). with_items (take n script.items) builder.lists rest) (sym (drop_all n script.items past)) ∙ way.lists,
 )
 
@@ -94,20 +94,21 @@ programmed script n builder way past few =
     record { script = script; sound = end.0; few = few; made = end.1 }
 
 -- the fault of an item whose earlier ones break no rule is that of the script
-pub refused : (script : Script) (n : ℕ) (x : Item) (builder : Builder) (fault : BuildFault) → IsUnderWay script n builder → n < length script.items → x ≡ get_or script.items n x
-    → IsItemFault 0 11 (take n script.items) x (builder.items + 1) fault → IsFaultAt script (n + 1) fault
+refused : (script : Script) (n : ℕ) (x : Item) (builder : Builder) (fault : BuildFault) → IsUnderWay script n builder → n < length script.items → x ≡ get_or script.items n x
+    → IsItemFault (take n script.items) x (builder.items + 1) fault → IsFaultAt script (n + 1) fault
 refused script n x builder fault way within is f =
     let here = item_at_place script.items n x within is in
     let count : builder.items + 1 ≡ n + 1 = ap (λ k. k + 1) way.items in
     record {
-      rule = f.rule;
-      position = f.position;
-      breaks = (breaks-at script n x f.rule here).1 f.breaks;
-      earlier_items = λ m other less. way.sound m other (omega (arith, less));
-      earlier_rules = λ other less h. f.earlier other (omega arith) less ((breaks-at script n x other here).0 h);
-      first = holds_at script n x (λ before y. IsPosition f.rule before y f.position) here f.first;
-      named = f.named ∙ ap (λ k. fault_of f.rule k f.position) count;
+      earlier = λ m less. way.sound m (omega (arith, less));
+      here = fault-at script n x fault here (subst (λ k. IsFaultOf script.version (take n script.items) x k fault) count (f.in_each script.version));
     }
 
 pub room : (script : Script) (n : ℕ) (builder : Builder) → IsUnderWay script n builder → n < length script.items → length script.items < 2 ^ 32 → HasRoom builder
 room script n builder way within short = record { items = let e = way.items in omega (arith, e, within, short); statements = way.statements }
+
+-- the answer of the builder at such an item
+pub refusal : (script : Script) (n : ℕ) (x : Item) (builder : Builder) (fault : BuildFault) → IsUnderWay script n builder → n < length script.items → x ≡ get_or script.items n x
+    → (fault ≡ NoMemory) ⊎ IsItemFault (take n script.items) x (builder.items + 1) fault → (fault ≡ NoMemory) ⊎ ((m : ℕ) × IsFaultAt script m fault)
+refusal script n x builder fault way within is (inl memory) = inl memory
+refusal script n x builder fault way within is (inr f) = inr (n + 1, refused script n x builder fault way within is f)

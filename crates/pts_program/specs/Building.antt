@@ -2,8 +2,7 @@
 use Rattle.std.specs.Prelude.{◌≡◌, ℕ, ◌-◌, ◌<◌, ◌≤◌, ◌^◌, drop, take}
 use Rattle.pts_tree.specs.declared.script.Script.{Script}
 use Rattle.pts_program.specs.declared.builder.Builder.{Builder}
-use Rattle.pts_program.specs.declared.fault.Rule.{Rule}
-use Rattle.pts_program.specs.Faults.{BreaksAt}
+use Rattle.pts_program.specs.Faults.{IsCleanAt}
 use Rattle.pts_program.specs.Lists.{lists_of, with_items}
 use Rattle.pts_program.specs.Standings.{IsStanding}
 
@@ -18,4 +17,4 @@ pub record IsUnderWay (script : Script) (n : ℕ) (builder : Builder) : Type 0 w
   pub lists : with_items (take n script.items) builder.lists (drop n script.items) ≡ lists_of script
   pub items : builder.items ≡ n
   pub statements : builder.standing.statements ≤ builder.items
-  pub sound : (m : ℕ) (rule : Rule) → m ≤ n → ¬ BreaksAt script m rule
+  pub sound : (m : ℕ) → m ≤ n → IsCleanAt script m

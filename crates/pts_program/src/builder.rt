@@ -8,7 +8,7 @@ ghost use Rattle.pts_program.specs.Building.{HasRoom};
 ghost use Rattle.pts_program.specs.Faults.{IsFaultAt, IsSound};
 ghost use Rattle.pts_program.specs.Lists as spec;
 ghost use Rattle.pts_program.specs.Standings.{IsStanding};
-ghost use Rattle.pts_program.specs.Verdicts.{IsVerdict};
+ghost use Rattle.pts_program.specs.Findings.{IsVerdict};
 
 use crate::checks::check_item;
 use crate::fault::BuildFault;
@@ -43,7 +43,7 @@ impl Builder {
     #[tactic(auto, using(crate::proofs::Declared::declarable))]
     fn add(&mut self, alloc: Global, item: &Item) -> Result<(), BuildFault>
         requires { HasRoom self.old }
-        ensures verdict { (before : List ItemTree) → IsStanding before self.old.standing → IsVerdict 0 11 before item.now (self.old.items + 1) result }
+        ensures verdict { (before : List ItemTree) → IsStanding before self.old.standing → IsVerdict before item.now (self.old.items + 1) result }
         ensures standing { OnOk result ((before : List ItemTree) → IsStanding before self.old.standing → IsStanding (before ++ item.now ∷ []) self.new.standing) }
         ensures lists { OnOk result (self.new.lists ≡ spec.with_item self.old.standing.scope (self.old.items + 1) self.old.lists item.now) }
         ensures items { OnOk result (self.new.items ≡ self.old.items + 1) }
@@ -60,7 +60,7 @@ impl Builder {
 
 /// The program of a script of less than 2^32 items, or the fault of its first item that breaks a rule, which names the first
 /// rule that it breaks.
-#[tactic(auto, using(crate::proofs::Ways::started, crate::proofs::Ways::one_more, crate::proofs::Ways::finished, crate::proofs::Ways::programmed, crate::proofs::Ways::refused, crate::proofs::Ways::room))]
+#[tactic(auto, using(crate::proofs::Ways::started, crate::proofs::Ways::one_more, crate::proofs::Ways::finished, crate::proofs::Ways::programmed, crate::proofs::Ways::room))]
 pub fn build(alloc: Global, script: &Script) -> Result<Program, BuildFault>
     requires { length script.now.items < 2 ^ 32 }
     ensures program { IfOk result (λ program. IsSound script.now × (program ≡ spec.lists_of script.now)) }

@@ -1,8 +1,5 @@
 //! The first fault of a script.
 
-ghost use Rattle.std.specs.Prelude.{◌≡◌};
-ghost use Rattle.pts_program.specs.Faults as spec;
-
 use pts_types::NoMemory;
 use thiserror::Error;
 
@@ -47,38 +44,58 @@ pub enum BuildFault {
     NoMemory,
 }
 
-/// The rules, in the order in which they are asked of an item.
-#[derive(Clone, Copy, Debug)]
-pub enum Rule {
-    Unknown,
-    Twice,
-    Mistyped,
-    TooDeep,
-    TooMany,
-    BadStep,
-    BackwardRange,
-    LengthsDiffer,
-    BadIdentity,
-    NotAffine,
-    OutOfRange,
-}
+impl BuildFault {
+    ghost use Rattle.std.specs.Prelude.{◌≡◌};
+    ghost use Rattle.pts_program.specs.RuleNames as spec;
 
-/// The fault that names a rule and an item; OutOfRange names a position as well.
-pub fn fault_of(rule: Rule, item: u32, position: u64) -> BuildFault
-    ensures { result ≡ spec.fault_of rule item position }
-{
-    match rule {
-        Rule::Unknown => BuildFault::Unknown(item),
-        Rule::Twice => BuildFault::Twice(item),
-        Rule::Mistyped => BuildFault::Mistyped(item),
-        Rule::TooDeep => BuildFault::TooDeep(item),
-        Rule::TooMany => BuildFault::TooMany(item),
-        Rule::BadStep => BuildFault::BadStep(item),
-        Rule::BackwardRange => BuildFault::BackwardRange(item),
-        Rule::LengthsDiffer => BuildFault::LengthsDiffer(item),
-        Rule::BadIdentity => BuildFault::BadIdentity(item),
-        Rule::NotAffine => BuildFault::NotAffine(item),
-        Rule::OutOfRange => BuildFault::OutOfRange { item, position },
+    /// The name of the rule that is broken, as the line of a refusal has it.
+    pub fn rule(self) -> &'static str
+        ensures { result.now ≡ spec.rule_name self }
+    {
+        match self {
+            BuildFault::Unknown(_) => "unknown",
+            BuildFault::Twice(_) => "twice",
+            BuildFault::Mistyped(_) => "mistyped",
+            BuildFault::TooDeep(_) => "too_deep",
+            BuildFault::TooMany(_) => "too_many",
+            BuildFault::BadStep(_) => "bad_step",
+            BuildFault::BackwardRange(_) => "backward_range",
+            BuildFault::LengthsDiffer(_) => "lengths_differ",
+            BuildFault::BadIdentity(_) => "bad_identity",
+            BuildFault::NotAffine(_) => "not_affine",
+            BuildFault::OutOfRange { .. } => "out_of_range",
+            BuildFault::NoMemory => "no_memory",
+        }
+    }
+
+    /// The number of the item that breaks it, from 1; 0 where there was no memory.
+    pub fn item(self) -> u32
+        ensures { result ≡ spec.item_of self }
+    {
+        match self {
+            BuildFault::Unknown(item)
+            | BuildFault::Twice(item)
+            | BuildFault::Mistyped(item)
+            | BuildFault::TooDeep(item)
+            | BuildFault::TooMany(item)
+            | BuildFault::BadStep(item)
+            | BuildFault::BackwardRange(item)
+            | BuildFault::LengthsDiffer(item)
+            | BuildFault::BadIdentity(item)
+            | BuildFault::NotAffine(item)
+            | BuildFault::OutOfRange { item, .. } => item,
+            BuildFault::NoMemory => 0,
+        }
+    }
+
+    /// The position at which a cell is not in its array, where that is the rule.
+    pub fn position(self) -> Option<u64>
+        ensures { result ≡ spec.position_of self }
+    {
+        match self {
+            BuildFault::OutOfRange { position, .. } => Some(position),
+            _ => None,
+        }
     }
 }
 

@@ -20,5 +20,5 @@ pub use laws::{
 };
 pub use program::Program;
 pub use pts_code::FunctionInfo;
-pub use pts_points::{Branch, CallInfo, PointForm, PointInfo};
 pub use pts_constants::{BlockInfo, CallText};
+pub use pts_points::{Branch, CallInfo, PointForm, PointInfo};

@@ -6,8 +6,8 @@ ghost use Rattle.pts_program.specs.Lists as spec;
 use crate::info::{ArrayInfo, StatementInfo};
 use crate::lists::Lists;
 use pts_code::{Codes, FunctionInfo};
-use pts_points::{CallInfo, PointInfo};
 use pts_constants::{BlockInfo, CallText};
+use pts_points::{CallInfo, PointInfo};
 use std::marker::Model;
 
 /// A script that breaks no rule, as lists: names are resolved, kinds agree, functions call earlier ones only, and each index

@@ -1,5 +1,5 @@
 -- How a call ends that was to write a whole text.
-use Rattle.std.proofs.Common.{◌≡◌, ◌≢◌, ◌≤◌, ℕ, List, [], ◌++◌, length, Option, Some, None, Result, Ok, Err, IfSome, OnOk, refl, sym, ap, subst, inl, inr, arith}
+use Rattle.std.proofs.Common.{◌≡◌, ◌≢◌, ◌≤◌, ℕ, List, [], ◌++◌, length, Option, Some, None, Result, Ok, Err, IfOk, IfSome, OnOk, refl, sym, ap, subst, inl, inr, arith}
 use Rattle.std.specs.Io.{StartsWith}
 use Rattle.std.specs.Io.KnownBytes.{Appends}
 use Rattle.std.proofs.KnownBytes.{Appends-nil}
@@ -17,9 +17,11 @@ use Rattle.pts_run.specs.declared.status.Status.TheVariants as status
 use Rattle.pts_run.specs.declared.words.Command.{Command}
 use Rattle.pts_run.specs.declared.words.Command.TheVariants as commands
 use Rattle.pts_run.specs.Acceptance.{IsAccepted, Rejects}
-use Rattle.pts_run.specs.Output.{Reads, Accepts, Refuses, RejectsFor, Takes, IsWholeText, IsAsScriptSays, Wrote, WrotePart, script_limit}
+use Rattle.pts_run.specs.declared.answer.Finish.{Finish}
+use Rattle.pts_run.specs.declared.answer.Finish.TheVariants as finishes
+use Rattle.pts_run.specs.Output.{Reads, Accepts, Refuses, RejectsFor, Takes, IsOutput, IsWholeText, IsAsScriptSays, Wrote, WrotePart, script_limit}
 use Rattle.pts_run.specs.Text.{accepted_line, refusal_line}
-use Rattle.pts_run.specs.Writing.{IsStatusOf, WritesRun, WritesRunPart, Leaves, Ends}
+use Rattle.pts_run.specs.Writing.{WritesRun, WritesRunPart, WritesText, Ends, finished, status_of}
 
 -- ---- known bytes
 
@@ -33,98 +35,89 @@ appended (Some x) (Some y) held text is h = let same : x ≡ held = cc in rw (�
 
 -- ---- what the parts of a call leave
 
-leaves_by : {T : Type 0} (command : Command) (bytes : List ℕ) (whole : Status) (written : Result T WriteEnd) (answer : Status) (old new : Option (List ℕ))
-    → IsStatusOf whole written answer → OnOk written (Leaves command bytes whole old new) → Leaves command bytes answer old new
-leaves_by command bytes whole (Ok x) answer old new is h = subst (λ (s : Status). Leaves command bytes s old new) (sym is.all) h
-leaves_by command bytes whole (Err ends.Fault) answer old new is h = subst (λ (s : Status). Leaves command bytes s old new) (sym (is.fault refl)) tt
-leaves_by command bytes whole (Err ends.NoMemory) answer old new is h = subst (λ (s : Status). Leaves command bytes s old new) (sym (is.memory refl)) tt
+-- the end of a command by what it wrote
+leaves_by : {T : Type 0} (command : Command) (bytes whole : List ℕ) (finish : Finish) (written : Result T WriteEnd) (old new : Option (List ℕ))
+    → IsOutput command bytes (status_of (Ok finish)) whole → OnOk written (Appends old new whole)
+    → IfOk (finished finish written) (λ f. (text : List ℕ) × IsOutput command bytes (status_of (Ok f)) text × Appends old new text)
+leaves_by command bytes whole finish (Ok x) old new is h = (whole, is, h)
+leaves_by command bytes whole finish (Err e) old new is h = tt
 
-on_ok : {T E P Q : Type 0} (r : Result T E) → (P → Q) → OnOk r P → OnOk r Q
-on_ok (Ok x) f h = f h
-on_ok (Err e) f h = tt
+ran_by : {T : Type 0} (pool : Pool) (bytes : List ℕ) (made : Lists) (written : Result T WriteEnd) (old new : Option (List ℕ))
+    → Accepts bytes made → OnOk written (WritesRun made (length made.statements) old new)
+    → IfOk (finished finishes.Done written) (λ f. (text : List ℕ) × IsOutput (commands.Run pool) bytes (status_of (Ok f)) text × Appends old new text)
+ran_by pool bytes made (Ok x) old new accepts ran = (ran.text, (made, accepts, ran.is_text), ran.appends)
+ran_by pool bytes made (Err e) old new accepts ran = tt
 
-pub run_ends : {T : Type 0} (pool : Pool) (bytes : List ℕ) (script : Script) (made : Lists) (written : Result T WriteEnd) (answer : Status) (old new : Option (List ℕ)) → Reads bytes script → IsAccepted script made
-    → OnOk written (WritesRun made (length made.statements) old new) → WritesRunPart made old new → IsStatusOf status.Done written answer → Ends (commands.Run pool) bytes answer old new
-run_ends pool bytes script made written answer old new reads accepted whole part is =
+pub run_ends : {T : Type 0} (pool : Pool) (bytes : List ℕ) (script : Script) (made : Lists) (written : Result T WriteEnd) (old new : Option (List ℕ)) → Reads bytes script → IsAccepted script made
+    → OnOk written (WritesRun made (length made.statements) old new) → WritesRunPart made old new → Ends (commands.Run pool) bytes (finished finishes.Done written) old new
+run_ends pool bytes script made written old new reads accepted whole part =
     let accepts : Accepts bytes made = record { script = script; reads = reads; accepted = accepted } in
     record {
-      leaves = leaves_by (commands.Run pool) bytes status.Done written answer old new is (on_ok written (λ ran. (ran.text, (made, accepts, ran.is_text), ran.appends)) whole);
+      leaves = ran_by pool bytes made written old new accepts whole;
       part = (part.text, inr (inl (part.whole, (made, part.count, accepts, part.is_text), part.starts)), part.appends);
     }
 
-pub check_ends : {T : Type 0} (bytes : List ℕ) (script : Script) (made : Lists) (written : Result T WriteEnd) (answer : Status) (text : List ℕ) (old new : Option (List ℕ)) → Reads bytes script → IsAccepted script made
-    → OnOk written (Appends old new accepted_line) → StartsWith accepted_line text → Appends old new text → IsStatusOf status.Done written answer → Ends commands.Check bytes answer old new
-check_ends bytes script made written answer text old new reads accepted whole starts part is =
+pub check_ends : {T : Type 0} (bytes : List ℕ) (script : Script) (made : Lists) (written : Result T WriteEnd) (old new : Option (List ℕ)) → Reads bytes script → IsAccepted script made
+    → WritesText accepted_line written old new → Ends commands.Check bytes (finished finishes.Done written) old new
+check_ends bytes script made written old new reads accepted h =
     let accepts : Accepts bytes made = record { script = script; reads = reads; accepted = accepted } in
     record {
-      leaves = leaves_by commands.Check bytes status.Done written answer old new is (on_ok written (λ h. (accepted_line, (made, accepts, refl), h)) whole);
-      part = (text, inr (inl (accepted_line, (made, accepts, refl), starts)), part);
+      leaves = leaves_by commands.Check bytes accepted_line finishes.Done written old new (made, accepts, refl) h.whole;
+      part = (h.part.0, inr (inl (accepted_line, (made, accepts, refl), h.part.1)), h.part.2);
     }
 
-pub print_ends : {T : Type 0} (bytes : List ℕ) (script : Script) (written : Result T WriteEnd) (answer : Status) (text : List ℕ) (old new : Option (List ℕ)) → Reads bytes script
-    → OnOk written (Appends old new (canonical script)) → StartsWith (canonical script) text → Appends old new text → IsStatusOf status.Done written answer → Ends commands.Print bytes answer old new
-print_ends bytes script written answer text old new reads whole starts part is = record {
-  leaves = leaves_by commands.Print bytes status.Done written answer old new is (on_ok written (λ h. (canonical script, (script, reads, refl), h)) whole);
-  part = (text, inr (inl (canonical script, (script, reads, refl), starts)), part);
+pub print_ends : {T : Type 0} (bytes : List ℕ) (script : Script) (written : Result T WriteEnd) (old new : Option (List ℕ)) → Reads bytes script
+    → WritesText (canonical script) written old new → Ends commands.Print bytes (finished finishes.Done written) old new
+print_ends bytes script written old new reads h = record {
+  leaves = leaves_by commands.Print bytes (canonical script) finishes.Done written old new (script, reads, refl) h.whole;
+  part = (h.part.0, inr (inl (canonical script, (script, reads, refl), h.part.1)), h.part.2);
 }
 
-pub refusal_ends : {T : Type 0} (command : Command) (bytes : List ℕ) (reason : Refusal) (written : Result T WriteEnd) (answer : Status) (text : List ℕ) (old new : Option (List ℕ)) → Refuses command bytes reason
-    → OnOk written (Appends old new (refusal_line reason)) → StartsWith (refusal_line reason) text → Appends old new text → IsStatusOf status.Refused written answer → Ends command bytes answer old new
-refusal_ends command bytes reason written answer text old new refuses whole starts part is = record {
-  leaves = leaves_by command bytes status.Refused written answer old new is (on_ok written (λ h. (refusal_line reason, (reason, refuses, refl), h)) whole);
-  part = (text, inr (inr (reason, refuses, starts)), part);
+pub refusal_ends : {T : Type 0} (command : Command) (bytes : List ℕ) (reason : Refusal) (written : Result T WriteEnd) (old new : Option (List ℕ)) → Refuses command bytes reason
+    → WritesText (refusal_line reason) written old new → Ends command bytes (finished finishes.Refused written) old new
+refusal_ends command bytes reason written old new refuses h = record {
+  leaves = leaves_by command bytes (refusal_line reason) finishes.Refused written old new (reason, refuses, refl) h.whole;
+  part = (h.part.0, inr (inr (reason, refuses, h.part.1)), h.part.2);
 }
 
 -- what a script is not run for, the command refuses it for
 pub refused : (command : Command) (bytes : List ℕ) (script : Script) (reason : Refusal) → RejectsFor command bytes reason → Rejects script reason → Refuses command bytes reason
 refused command bytes script refusals.TooLong h r = absurd r
-refused command bytes script (refusals.Byte at) h r = absurd r
-refused command bytes script (refusals.Number at) h r = absurd r
-refused command bytes script (refusals.Syntax at) h r = absurd r
-refused command bytes script (refusals.Nesting at) h r = absurd r
-refused command bytes script (refusals.Unknown item) h r = h
-refused command bytes script (refusals.Twice item) h r = h
-refused command bytes script (refusals.Mistyped item) h r = h
-refused command bytes script (refusals.TooDeep item) h r = h
-refused command bytes script (refusals.TooMany item) h r = h
-refused command bytes script (refusals.BadStep item) h r = h
-refused command bytes script (refusals.BackwardRange item) h r = h
-refused command bytes script (refusals.LengthsDiffer item) h r = h
-refused command bytes script (refusals.BadIdentity item) h r = h
-refused command bytes script (refusals.NotAffine item) h r = h
-refused command bytes script (refusals.OutOfRange item position) h r = h
+refused command bytes script (refusals.Syntax fault) h r = absurd r
+refused command bytes script (refusals.Build fault) h r = h
 refused command bytes script (refusals.Later item) h r = h
 
 -- for want of memory nothing is written
-pub nothing_ends : (command : Command) (bytes : List ℕ) (old : Option (List ℕ)) → Ends command bytes status.NoMemory old old
+pub nothing_ends : (command : Command) (bytes : List ℕ) (old : Option (List ℕ)) → Ends command bytes (Err ends.NoMemory) old old
 nothing_ends command bytes old = record { leaves = tt; part = ([], inl refl, Appends-nil old) }
 
 -- ---- what the whole call wrote
 
-pub wrote_done : (command : Command) (bytes held : List ℕ) (answer : Status) (old new : Option (List ℕ)) → old ≡ Some held → answer ≡ status.Done
-    → Ends command bytes answer old new → Wrote command bytes status.Done held new
-wrote_done command bytes held answer old new is done h =
-    let left : Leaves command bytes status.Done old new = subst (λ (s : Status). Leaves command bytes s old new) done h.leaves in
-    (left.0, left.1, appended old new held left.0 is left.2)
+module _ (command : Command) (bytes held : List ℕ) (old new : Option (List ℕ)) (is : old ≡ Some held) where
+  wrote_all : (finish : Finish) → Ends command bytes (Ok finish) old new → Wrote command bytes (status_of (Ok finish)) held new
+  wrote_all finish h = (h.leaves.0, h.leaves.1, appended old new held h.leaves.0 is h.leaves.2)
 
-pub wrote_refused : (command : Command) (bytes held : List ℕ) (answer : Status) (old new : Option (List ℕ)) → old ≡ Some held → answer ≡ status.Refused
-    → Ends command bytes answer old new → Wrote command bytes status.Refused held new
-wrote_refused command bytes held answer old new is refused h =
-    let left : Leaves command bytes status.Refused old new = subst (λ (s : Status). Leaves command bytes s old new) refused h.leaves in
-    (left.0, left.1, appended old new held left.0 is left.2)
+  -- with no fault and with memory all is written
+  pub wrote : {Risen : Type 0} (ended : Result Finish WriteEnd) → Ends command bytes ended old new → ¬ Risen → (ended ≡ Err ends.Fault → Risen)
+      → status_of ended ≢ status.NoMemory → Wrote command bytes (status_of ended) held new
+  wrote (Ok finish) h calm rises memory = wrote_all finish h
+  wrote (Err ends.Fault) h calm rises memory = absurd (calm (rises refl))
+  wrote (Err ends.NoMemory) h calm rises memory = absurd (memory refl)
 
--- with no fault and with memory all is written
-pub wrote : {Risen : Type 0} (command : Command) (bytes held : List ℕ) (answer : Status) (old new : Option (List ℕ)) → old ≡ Some held → Ends command bytes answer old new
-    → ¬ Risen → (answer ≡ status.WriteFault → Risen) → answer ≢ status.NoMemory → Wrote command bytes answer held new
-wrote command bytes held status.Done old new is h calm rises memory = wrote_done command bytes held status.Done old new is refl h
-wrote command bytes held status.Refused old new is h calm rises memory = wrote_refused command bytes held status.Refused old new is refl h
-wrote command bytes held status.WriteFault old new is h calm rises memory = absurd (calm (rises refl))
-wrote command bytes held status.NoMemory old new is h calm rises memory = absurd (memory refl)
-wrote command bytes held status.Usage old new is h calm rises memory = absurd h.leaves
-wrote command bytes held status.ReadFault old new is h calm rises memory = absurd h.leaves
+  pub wrote_done : (ended : Result Finish WriteEnd) → status_of ended ≡ status.Done → Ends command bytes ended old new → Wrote command bytes status.Done held new
+  wrote_done (Ok finishes.Done) e h = wrote_all finishes.Done h
+  wrote_done (Ok finishes.Refused) e h = absurd (cc)
+  wrote_done (Err ends.Fault) e h = absurd (cc)
+  wrote_done (Err ends.NoMemory) e h = absurd (cc)
 
-pub wrote_part : (command : Command) (bytes held : List ℕ) (answer : Status) (old new : Option (List ℕ)) → old ≡ Some held → Ends command bytes answer old new → WrotePart command bytes held new
-wrote_part command bytes held answer old new is h = (h.part.0, h.part.1, appended old new held h.part.0 is h.part.2)
+  pub wrote_refused : (ended : Result Finish WriteEnd) → status_of ended ≡ status.Refused → Ends command bytes ended old new → Wrote command bytes status.Refused held new
+  wrote_refused (Ok finishes.Done) e h = absurd (cc)
+  wrote_refused (Ok finishes.Refused) e h = wrote_all finishes.Refused h
+  wrote_refused (Err ends.Fault) e h = absurd (cc)
+  wrote_refused (Err ends.NoMemory) e h = absurd (cc)
+
+  pub wrote_part : (ended : Result Finish WriteEnd) → Ends command bytes ended old new → WrotePart command bytes held new
+  wrote_part ended h = (h.part.0, h.part.1, appended old new held h.part.0 is h.part.2)
 
 takes : (command : Command) (bytes text : List ℕ) → IsWholeText command bytes text → Takes command bytes
 takes (commands.Run pool) bytes text h = (h.0, h.1)
@@ -132,19 +125,43 @@ takes commands.Check bytes text h = (h.0, h.1)
 takes commands.Print bytes text h = (h.0, h.1)
 
 -- with no fault the script decides
-pub as_said : {Risen : Type 0} (command : Command) (bytes : List ℕ) (answer : Status) (old new : Option (List ℕ)) → Ends command bytes answer old new
-    → ¬ Risen → (answer ≡ status.WriteFault → Risen) → IsAsScriptSays command bytes answer
-as_said command bytes status.Done old new h calm rises = takes command bytes h.leaves.0 h.leaves.1
-as_said command bytes status.Refused old new h calm rises = (h.leaves.1.0, h.leaves.1.1)
-as_said command bytes status.WriteFault old new h calm rises = absurd (calm (rises refl))
-as_said command bytes status.NoMemory old new h calm rises = tt
-as_said command bytes status.Usage old new h calm rises = absurd h.leaves
-as_said command bytes status.ReadFault old new h calm rises = absurd h.leaves
+pub as_said : {Risen : Type 0} (command : Command) (bytes : List ℕ) (ended : Result Finish WriteEnd) (old new : Option (List ℕ)) → Ends command bytes ended old new
+    → ¬ Risen → (ended ≡ Err ends.Fault → Risen) → IsAsScriptSays command bytes (status_of ended)
+as_said command bytes (Ok finishes.Done) old new h calm rises = takes command bytes h.leaves.0 h.leaves.1
+as_said command bytes (Ok finishes.Refused) old new h calm rises = (h.leaves.1.0, h.leaves.1.1)
+as_said command bytes (Err ends.Fault) old new h calm rises = absurd (calm (rises refl))
+as_said command bytes (Err ends.NoMemory) old new h calm rises = tt
+
+-- no such end is a faulty command line or a fault of the source
+pub no_usage : (ended : Result Finish WriteEnd) → status_of ended ≢ status.Usage
+no_usage (Ok finishes.Done) e = absurd (cc)
+no_usage (Ok finishes.Refused) e = absurd (cc)
+no_usage (Err ends.Fault) e = absurd (cc)
+no_usage (Err ends.NoMemory) e = absurd (cc)
+
+pub no_read_fault : (ended : Result Finish WriteEnd) → status_of ended ≢ status.ReadFault
+no_read_fault (Ok finishes.Done) e = absurd (cc)
+no_read_fault (Ok finishes.Refused) e = absurd (cc)
+no_read_fault (Err ends.Fault) e = absurd (cc)
+no_read_fault (Err ends.NoMemory) e = absurd (cc)
+
+-- a fault of the sink alone ends so
+pub faulty : (ended : Result Finish WriteEnd) → status_of ended ≡ status.WriteFault → ended ≡ Err ends.Fault
+faulty (Ok finishes.Done) e = absurd (cc)
+faulty (Ok finishes.Refused) e = absurd (cc)
+faulty (Err ends.Fault) e = refl
+faulty (Err ends.NoMemory) e = absurd (cc)
+
+pub done : (ended : Result Finish WriteEnd) → status_of ended ≡ status.Done → ended ≡ Ok finishes.Done
+done (Ok finishes.Done) e = refl
+done (Ok finishes.Refused) e = absurd (cc)
+done (Err ends.Fault) e = absurd (cc)
+done (Err ends.NoMemory) e = absurd (cc)
 
 -- ---- what the words and the reasons tell
 
-pub for_same : (found command : Command) (bytes : List ℕ) (answer : Status) (old new : Option (List ℕ)) → Some found ≡ Some command → Ends found bytes answer old new → Ends command bytes answer old new
-for_same found command bytes answer old new e h = let same : found ≡ command = cc in subst (λ (k : Command). Ends k bytes answer old new) same h
+pub for_same : (found command : Command) (bytes : List ℕ) (ended : Result Finish WriteEnd) (old new : Option (List ℕ)) → Some found ≡ Some command → Ends found bytes ended old new → Ends command bytes ended old new
+for_same found command bytes ended old new e h = let same : found ≡ command = cc in subst (λ (k : Command). Ends k bytes ended old new) same h
 
 pub not_too_long : (command : Command) (bytes : List ℕ) (reason : Refusal) → Refuses command bytes reason → length bytes ≤ script_limit → reason ≢ TooLong
 not_too_long command bytes reason refuses short long = let more : Refuses command bytes TooLong = subst (Refuses command bytes) long refuses in absurd (omega arith)

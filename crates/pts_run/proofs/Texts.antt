@@ -1,9 +1,7 @@
 -- The lines of one more answer.
 use Rattle.std.proofs.Common.{◌≡◌, ℕ, ◌+◌, List, [], ◌∷◌, ◌++◌, length, sym, ap, ◌∙◌, arith, append_assoc, append-nil}
-use Rattle.std.specs.Prelude.{codes, decimal}
 use Rattle.pts_eval.specs.Runs.{Answer}
-use Rattle.pts_run.specs.declared.refusal.Refusal.TheVariants as refusals
-use Rattle.pts_run.specs.Text.{line_feed, line_of, lines_from, refusal_line}
+use Rattle.pts_run.specs.Text.{line_of, lines_from}
 
 pub lines_from-push : (number : ℕ) (answers : List Answer) (a : Answer) → lines_from number (answers ++ a ∷ []) ≡ lines_from number answers ++ line_of (number + length answers) a
 lines_from-push number [] a = append-nil (line_of number a) ∙ ap (λ n. line_of n a) (omega arith)
@@ -11,10 +9,3 @@ lines_from-push number (x ∷ xs) a =
     ap (λ text. line_of number x ++ text) (lines_from-push (number + 1) xs a)
     ∙ sym (append_assoc (line_of number x) (lines_from (number + 1) xs) (line_of (number + 1 + length xs) a))
     ∙ ap (λ n. line_of number x ++ lines_from (number + 1) xs ++ line_of n a) (omega arith)
-
-parts : (a b c d e : List ℕ) → a ++ (b ++ (c ++ (d ++ e))) ≡ a ++ b ++ c ++ d ++ e
-parts a b c d e = sym (append_assoc a b (c ++ (d ++ e))) ∙ sym (append_assoc (a ++ b) c (d ++ e)) ∙ sym (append_assoc (a ++ b ++ c) d e)
-
--- the line of an item that leaves an array, put together from its end
-pub out_of_range_line : (item position : ℕ) → codes "refused out_of_range item " ++ (decimal item ++ (codes " position " ++ (decimal position ++ line_feed))) ≡ refusal_line (refusals.OutOfRange item position)
-out_of_range_line item position = parts (codes "refused out_of_range item ") (decimal item) (codes " position ") (decimal position) line_feed

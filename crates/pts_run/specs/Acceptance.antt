@@ -28,31 +28,11 @@ IsLater script item = IsSound script × (first_later (lists_of script) ≡ Some 
 
 -- the script is not run for this reason
 abbrev pub Rejects : Script → Refusal → Type 0
-Rejects script (refusals.Unknown item) = HasFault script (faults.Unknown item)
-Rejects script (refusals.Twice item) = HasFault script (faults.Twice item)
-Rejects script (refusals.Mistyped item) = HasFault script (faults.Mistyped item)
-Rejects script (refusals.TooDeep item) = HasFault script (faults.TooDeep item)
-Rejects script (refusals.TooMany item) = HasFault script (faults.TooMany item)
-Rejects script (refusals.BadStep item) = HasFault script (faults.BadStep item)
-Rejects script (refusals.BackwardRange item) = HasFault script (faults.BackwardRange item)
-Rejects script (refusals.LengthsDiffer item) = HasFault script (faults.LengthsDiffer item)
-Rejects script (refusals.BadIdentity item) = HasFault script (faults.BadIdentity item)
-Rejects script (refusals.NotAffine item) = HasFault script (faults.NotAffine item)
-Rejects script (refusals.OutOfRange item position) = HasFault script (faults.OutOfRange item position)
+Rejects script (refusals.Build fault) = HasFault script fault
 Rejects script (refusals.Later item) = IsLater script item
-Rejects script _ = ⊥
+Rejects script reason = ⊥
 
--- what a fault of the builder is to the top call
+-- what a fault of the builder is for the top call
 abbrev pub rejection_of : BuildFault → Rejection
-rejection_of (faults.Unknown item) = rejections.Refused (refusals.Unknown item)
-rejection_of (faults.Twice item) = rejections.Refused (refusals.Twice item)
-rejection_of (faults.Mistyped item) = rejections.Refused (refusals.Mistyped item)
-rejection_of (faults.TooDeep item) = rejections.Refused (refusals.TooDeep item)
-rejection_of (faults.TooMany item) = rejections.Refused (refusals.TooMany item)
-rejection_of (faults.BadStep item) = rejections.Refused (refusals.BadStep item)
-rejection_of (faults.BackwardRange item) = rejections.Refused (refusals.BackwardRange item)
-rejection_of (faults.LengthsDiffer item) = rejections.Refused (refusals.LengthsDiffer item)
-rejection_of (faults.BadIdentity item) = rejections.Refused (refusals.BadIdentity item)
-rejection_of (faults.NotAffine item) = rejections.Refused (refusals.NotAffine item)
-rejection_of (faults.OutOfRange item position) = rejections.Refused (refusals.OutOfRange item position)
 rejection_of faults.NoMemory = rejections.NoMemory
+rejection_of fault = rejections.Refused (refusals.Build fault)

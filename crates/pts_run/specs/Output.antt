@@ -1,10 +1,10 @@
 -- What the top call prints, and what each of its answers says.
-use Rattle.std.specs.Prelude.{◌≡◌, ◌⊎◌, ℕ, ◌<◌, ◌≤◌, List, [], ◌++◌, length, Option, Some}
+use Rattle.std.specs.Prelude.{◌≡◌, ◌≢◌, ◌⊎◌, ℕ, ◌<◌, ◌≤◌, List, [], ◌++◌, length, Option, Some}
 use Rattle.std.specs.Io.{StartsWith}
 use Rattle.pts_tree.specs.declared.script.Script.{Script}
 use Rattle.pts_print.specs.Canonical.{canonical}
-use Rattle.pts_syntax.specs.Syntax.{IsParsed, ExplainsKind}
-use Rattle.pts_syntax.specs.declared.reading.SyntaxKind.{SyntaxKind}
+use Rattle.pts_syntax.specs.Syntax.{IsParsed, Explains}
+use Rattle.pts_syntax.specs.declared.reading.SyntaxFault.{SyntaxFault}
 use Rattle.pts_syntax.specs.declared.reading.SyntaxKind.TheVariants as fault_kinds
 use Rattle.pts_program.specs.declared.lists.Lists.{Lists}
 use Rattle.pts_eval.specs.Runs.{Run, PermittedRun}
@@ -34,9 +34,11 @@ pub record Accepts (bytes : List ℕ) (made : Lists) : Type 0 where
   pub reads : Reads bytes script
   pub accepted : IsAccepted script made
 
--- the bytes are within the limit, and no script, for a fault of this kind at this byte
-abbrev pub FailsAt : List ℕ → ℕ → SyntaxKind → Type 0
-FailsAt bytes at kind = (length bytes ≤ script_limit) × ExplainsKind bytes at kind
+-- the bytes are within the limit, and no script for this fault of the text
+pub record FailsBy (bytes : List ℕ) (fault : SyntaxFault) : Type 0 where
+  pub short : length bytes ≤ script_limit
+  pub explains : Explains bytes fault
+  pub known : fault.kind ≢ fault_kinds.NoMemory
 
 -- the bytes are a script that is not run for this reason
 abbrev pub IsRejected : List ℕ → Refusal → Type 0
@@ -51,10 +53,7 @@ RejectsFor commands.Print bytes reason = ⊥
 -- the command refuses the bytes for this
 abbrev pub Refuses : Command → List ℕ → Refusal → Type 0
 Refuses command bytes refusals.TooLong = script_limit < length bytes
-Refuses command bytes (refusals.Byte at) = FailsAt bytes at fault_kinds.Byte
-Refuses command bytes (refusals.Number at) = FailsAt bytes at fault_kinds.Number
-Refuses command bytes (refusals.Syntax at) = FailsAt bytes at fault_kinds.Unexpected
-Refuses command bytes (refusals.Nesting at) = FailsAt bytes at fault_kinds.Nesting
+Refuses command bytes (refusals.Syntax fault) = FailsBy bytes fault
 Refuses command bytes reason = RejectsFor command bytes reason
 
 -- the command takes the bytes

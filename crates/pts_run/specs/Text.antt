@@ -1,11 +1,13 @@
 -- The printed texts: the line of each answer, of a script that is accepted, and of a refusal.
-use Rattle.std.specs.Prelude.{ℕ, ◌+◌, true, false, List, [], ◌∷◌, ◌++◌, codes, decimal}
+use Rattle.std.specs.Prelude.{ℕ, ◌+◌, true, false, Option, Some, None, List, [], ◌∷◌, ◌++◌, codes, decimal}
 use Rattle.std.specs.List.{flat_map}
 use Rattle.pts_run.specs.declared.refusal.Refusal.{Refusal}
 use Rattle.pts_run.specs.declared.refusal.Refusal.TheVariants as refusals
 use Rattle.std.specs.Fmt.{signed_decimal}
 use Rattle.pts_types.specs.declared.value.Value.{Value}
 use Rattle.pts_types.specs.declared.value.Value.TheVariants as values
+use Rattle.pts_syntax.specs.KindNames.{kind_name}
+use Rattle.pts_program.specs.RuleNames.{item_of, position_of, rule_name}
 use Rattle.pts_eval.specs.Runs.{Answer, Reduced, Printed}
 
 abbrev pub line_feed : List ℕ
@@ -39,22 +41,14 @@ text_of answers = lines_from 1 answers
 abbrev pub accepted_line : List ℕ
 accepted_line = codes "accepted" ++ line_feed
 
+-- a position behind the item, where there is one
+abbrev pub at_position : Option ℕ → List ℕ
+at_position None = []
+at_position (Some position) = codes " position " ++ decimal position
+
 -- the line of a refusal
 abbrev pub refusal_line : Refusal → List ℕ
 refusal_line refusals.TooLong = codes "refused too_long" ++ line_feed
-refusal_line (refusals.Byte at) = codes "refused byte at " ++ decimal at ++ line_feed
-refusal_line (refusals.Number at) = codes "refused number at " ++ decimal at ++ line_feed
-refusal_line (refusals.Syntax at) = codes "refused syntax at " ++ decimal at ++ line_feed
-refusal_line (refusals.Nesting at) = codes "refused nesting at " ++ decimal at ++ line_feed
-refusal_line (refusals.Unknown item) = codes "refused unknown item " ++ decimal item ++ line_feed
-refusal_line (refusals.Twice item) = codes "refused twice item " ++ decimal item ++ line_feed
-refusal_line (refusals.Mistyped item) = codes "refused mistyped item " ++ decimal item ++ line_feed
-refusal_line (refusals.TooDeep item) = codes "refused too_deep item " ++ decimal item ++ line_feed
-refusal_line (refusals.TooMany item) = codes "refused too_many item " ++ decimal item ++ line_feed
-refusal_line (refusals.BadStep item) = codes "refused bad_step item " ++ decimal item ++ line_feed
-refusal_line (refusals.BackwardRange item) = codes "refused backward_range item " ++ decimal item ++ line_feed
-refusal_line (refusals.LengthsDiffer item) = codes "refused lengths_differ item " ++ decimal item ++ line_feed
-refusal_line (refusals.BadIdentity item) = codes "refused bad_identity item " ++ decimal item ++ line_feed
-refusal_line (refusals.NotAffine item) = codes "refused not_affine item " ++ decimal item ++ line_feed
-refusal_line (refusals.OutOfRange item position) = codes "refused out_of_range item " ++ decimal item ++ codes " position " ++ decimal position ++ line_feed
+refusal_line (refusals.Syntax fault) = codes "refused " ++ kind_name fault.kind ++ codes " at " ++ decimal fault.at ++ line_feed
+refusal_line (refusals.Build fault) = codes "refused " ++ rule_name fault ++ codes " item " ++ decimal (item_of fault) ++ at_position (position_of fault) ++ line_feed
 refusal_line (refusals.Later item) = codes "refused later item " ++ decimal item ++ line_feed

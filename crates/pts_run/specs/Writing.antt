@@ -1,14 +1,28 @@
 -- What the calls below the top call write, and what they say of it.
-use Rattle.std.specs.Prelude.{◌≡◌, ℕ, List, Option, Result, Err, OnOk}
+use Rattle.std.specs.Prelude.{◌≡◌, ℕ, ◌≤◌, List, Option, Result, Ok, Err, IfOk, OnOk}
 use Rattle.std.specs.Io.{StartsWith}
 use Rattle.std.specs.Io.KnownBytes.{Appends}
+use Rattle.pts_io.specs.Streams.{HasRisen}
 use Rattle.pts_program.specs.declared.lists.Lists.{Lists}
+use Rattle.pts_run.specs.declared.answer.Finish.{Finish}
+use Rattle.pts_run.specs.declared.answer.Finish.TheVariants as finishes
 use Rattle.pts_run.specs.declared.run.WriteEnd.{WriteEnd}
 use Rattle.pts_run.specs.declared.run.WriteEnd.TheVariants as ends
+use Rattle.pts_run.specs.declared.refusal.Refusal.{Refusal}
 use Rattle.pts_run.specs.declared.status.Status.{Status}
 use Rattle.pts_run.specs.declared.status.Status.TheVariants as status
 use Rattle.pts_run.specs.declared.words.Command.{Command}
 use Rattle.pts_run.specs.Output.{IsRunText, IsOutput, IsPartialOutput}
+
+-- the count of a sink's failures does not fall, and rose where the writing failed
+pub record IsCounted {T : Type 0} (written : Result T WriteEnd) (before after : ℕ) : Type 0 where
+  pub fault : written ≡ Err ends.Fault → HasRisen before after
+  pub counts : before ≤ after
+
+-- what a sink holds grew by this text, or by a front of it
+pub record WritesText {T : Type 0} (whole_text : List ℕ) (written : Result T WriteEnd) (old new : Option (List ℕ)) : Type 0 where
+  pub whole : OnOk written (Appends old new whole_text)
+  pub part : (text : List ℕ) × StartsWith whole_text text × Appends old new text
 
 -- what a sink holds grew by the text of a permitted run of the program's first `count` statements
 pub record WritesRun (lists : Lists) (count : ℕ) (old new : Option (List ℕ)) : Type 0 where
@@ -25,22 +39,21 @@ pub record WritesRunPart (lists : Lists) (old new : Option (List ℕ)) : Type 0 
   pub starts : StartsWith whole text
   pub appends : Appends old new text
 
--- the answer is `whole` where all was written, and else says what stopped the writing
-pub record IsStatusOf {T : Type 0} (whole : Status) (written : Result T WriteEnd) (answer : Status) : Type 0 where
-  pub all : OnOk written (answer ≡ whole)
-  pub fault : written ≡ Err ends.Fault → answer ≡ status.WriteFault
-  pub memory : written ≡ Err ends.NoMemory → answer ≡ status.NoMemory
+-- ---- how a command ends that has read its script
 
--- what a sink got by an answer of the command: a whole text; where writing or memory failed this says nothing
-abbrev pub Leaves : Command → List ℕ → Status → Option (List ℕ) → Option (List ℕ) → Type 0
-Leaves command bytes status.Done old new = (text : List ℕ) × IsOutput command bytes status.Done text × Appends old new text
-Leaves command bytes status.Refused old new = (text : List ℕ) × IsOutput command bytes status.Refused text × Appends old new text
-Leaves command bytes status.WriteFault old new = Unit {0}
-Leaves command bytes status.NoMemory old new = Unit {0}
-Leaves command bytes status.Usage old new = ⊥
-Leaves command bytes status.ReadFault old new = ⊥
+-- the status of such an end
+abbrev pub status_of : Result Finish WriteEnd → Status
+status_of (Ok finishes.Done) = status.Done
+status_of (Ok finishes.Refused) = status.Refused
+status_of (Err ends.Fault) = status.WriteFault
+status_of (Err ends.NoMemory) = status.NoMemory
 
--- how a call of the command on these bytes ends that has read them all
-pub record Ends (command : Command) (bytes : List ℕ) (answer : Status) (old new : Option (List ℕ)) : Type 0 where
-  pub leaves : Leaves command bytes answer old new
+-- this is the end where all was written, and else what stopped the writing
+abbrev pub finished : {T : Type 0} → Finish → Result T WriteEnd → Result Finish WriteEnd
+finished finish (Ok x) = Ok finish
+finished finish (Err end) = Err end
+
+-- a sink holds behind what it held the whole text of the end, or, where it gave up, what may stand there then
+pub record Ends (command : Command) (bytes : List ℕ) (ended : Result Finish WriteEnd) (old new : Option (List ℕ)) : Type 0 where
+  pub leaves : IfOk ended (λ finish. (text : List ℕ) × IsOutput command bytes (status_of (Ok finish)) text × Appends old new text)
   pub part : (text : List ℕ) × IsPartialOutput command bytes text × Appends old new text

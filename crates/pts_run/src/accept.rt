@@ -24,21 +24,10 @@ impl From<BuildFault> for Rejection {
     ghost from_gives = { λ fault rejection. rejection ≡ spec.rejection_of fault };
 
     fn from(fault: BuildFault) -> Self {
-        let refusal = match fault {
-            BuildFault::Unknown(item) => Refusal::Unknown(item),
-            BuildFault::Twice(item) => Refusal::Twice(item),
-            BuildFault::Mistyped(item) => Refusal::Mistyped(item),
-            BuildFault::TooDeep(item) => Refusal::TooDeep(item),
-            BuildFault::TooMany(item) => Refusal::TooMany(item),
-            BuildFault::BadStep(item) => Refusal::BadStep(item),
-            BuildFault::BackwardRange(item) => Refusal::BackwardRange(item),
-            BuildFault::LengthsDiffer(item) => Refusal::LengthsDiffer(item),
-            BuildFault::BadIdentity(item) => Refusal::BadIdentity(item),
-            BuildFault::NotAffine(item) => Refusal::NotAffine(item),
-            BuildFault::OutOfRange { item, position } => Refusal::OutOfRange { item, position },
-            BuildFault::NoMemory => return Rejection::NoMemory,
-        };
-        Rejection::Refused(refusal)
+        match fault {
+            BuildFault::NoMemory => Rejection::NoMemory,
+            _ => Rejection::Refused(Refusal::Build(fault)),
+        }
     }
 }
 

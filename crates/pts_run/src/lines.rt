@@ -1,11 +1,14 @@
 //! The texts of lines.
 
-ghost use Rattle.std.specs.Prelude.{◌≡◌, ◌++◌, OnOk, codes, decimal};
+ghost use Rattle.std.specs.Prelude.{◌≡◌, ◌++◌, OnOk, decimal};
 ghost use Rattle.pts_eval.specs.Runs.{Reduced, Printed};
-ghost use Rattle.pts_run.specs.Text.{line_feed, line_of, spaced, value_text, refusal_line};
+ghost use Rattle.pts_run.specs.declared.refusal.Refusal.TheVariants as refusals;
+ghost use Rattle.pts_run.specs.Text.{at_position, line_feed, line_of, spaced, value_text, refusal_line};
 
 use crate::refusal::Refusal;
 use itoa::{Buffer, Integer};
+use pts_program::BuildFault;
+use pts_syntax::SyntaxFault;
 use pts_types::Value;
 use std::alloc::AllocError;
 
@@ -38,51 +41,62 @@ pub fn push_printed(
 }
 
 /// Puts the line of a refusal behind what the text holds.
-#[tactic(auto, using(std::proofs::lemmas::List::append_assoc))]
 pub fn push_refusal(text: &mut Vec<u8>, refusal: Refusal) -> Result<(), AllocError>
     ensures { OnOk result (text.new.items ≡ text.old.items ++ refusal_line refusal) }
 {
     match refusal {
         Refusal::TooLong => text.extend_from_slice(b"refused too_long\n"),
-        Refusal::Byte(at) => push_counted(text, b"refused byte at ", at),
-        Refusal::Number(at) => push_counted(text, b"refused number at ", at),
-        Refusal::Syntax(at) => push_counted(text, b"refused syntax at ", at),
-        Refusal::Nesting(at) => push_counted(text, b"refused nesting at ", at),
-        Refusal::Unknown(item) => push_counted(text, b"refused unknown item ", item),
-        Refusal::Twice(item) => push_counted(text, b"refused twice item ", item),
-        Refusal::Mistyped(item) => push_counted(text, b"refused mistyped item ", item),
-        Refusal::TooDeep(item) => push_counted(text, b"refused too_deep item ", item),
-        Refusal::TooMany(item) => push_counted(text, b"refused too_many item ", item),
-        Refusal::BadStep(item) => push_counted(text, b"refused bad_step item ", item),
-        Refusal::BackwardRange(item) => push_counted(text, b"refused backward_range item ", item),
-        Refusal::LengthsDiffer(item) => push_counted(text, b"refused lengths_differ item ", item),
-        Refusal::BadIdentity(item) => push_counted(text, b"refused bad_identity item ", item),
-        Refusal::NotAffine(item) => push_counted(text, b"refused not_affine item ", item),
-        Refusal::OutOfRange { item, position } => {
-            push_placed(text, b"refused out_of_range item ", item, position)
-        }
+        Refusal::Syntax(fault) => push_syntax_fault(text, fault),
+        Refusal::Build(fault) => push_build_fault(text, fault),
         Refusal::Later(item) => push_counted(text, b"refused later item ", item),
     }
 }
 
+#[tactic(auto, using(std::proofs::lemmas::List::append_assoc))]
+fn push_syntax_fault(text: &mut Vec<u8>, fault: SyntaxFault) -> Result<(), AllocError>
+    ensures { OnOk result (text.new.items ≡ text.old.items ++ refusal_line (refusals.Syntax fault)) }
+{
+    text.extend_from_slice(b"refused ")?;
+    text.extend_from_slice(fault.kind.name().as_bytes())?;
+    text.extend_from_slice(b" at ")?;
+    push_number(text, fault.at)?;
+    text.extend_from_slice(b"\n")
+}
+
+#[tactic(auto, using(std::proofs::lemmas::List::append_assoc))]
+fn push_build_fault(text: &mut Vec<u8>, fault: BuildFault) -> Result<(), AllocError>
+    ensures { OnOk result (text.new.items ≡ text.old.items ++ refusal_line (refusals.Build fault)) }
+{
+    text.extend_from_slice(b"refused ")?;
+    text.extend_from_slice(fault.rule().as_bytes())?;
+    text.extend_from_slice(b" item ")?;
+    push_number(text, fault.item())?;
+    push_position(text, fault.position())?;
+    text.extend_from_slice(b"\n")
+}
+
 // A line of these words and a number.
 #[tactic(auto, using(std::proofs::lemmas::List::append_assoc))]
-fn push_counted<I: Integer>(text: &mut Vec<u8>, words: &[u8], number: I) -> Result<(), AllocError>
-    ensures { OnOk result (text.new.items ≡ text.old.items ++ (words.now ++ (I.text number ++ line_feed))) }
+fn push_counted(text: &mut Vec<u8>, words: &[u8], number: u32) -> Result<(), AllocError>
+    ensures { OnOk result (text.new.items ≡ text.old.items ++ (words.now ++ (decimal number ++ line_feed))) }
 {
     text.extend_from_slice(words)?;
     push_number(text, number)?;
     text.extend_from_slice(b"\n")
 }
 
-// A line of these words, an item and a position.
+// The position of a fault, where it has one.
 #[tactic(auto, using(std::proofs::lemmas::List::append_assoc))]
-fn push_placed(text: &mut Vec<u8>, words: &[u8], item: u32, position: u64) -> Result<(), AllocError>
-    ensures { OnOk result (text.new.items ≡ text.old.items ++ (words.now ++ (decimal item ++ (codes " position " ++ (decimal position ++ line_feed))))) }
+fn push_position(text: &mut Vec<u8>, position: Option<u64>) -> Result<(), AllocError>
+    ensures { OnOk result (text.new.items ≡ text.old.items ++ at_position position) }
 {
-    text.extend_from_slice(words)?;
-    push_number(text, item)?;
-    push_counted(text, b" position ", position)
+    match position {
+        Some(position) => {
+            text.extend_from_slice(b" position ")?;
+            push_number(text, position)
+        }
+        None => Ok(()),
+    }
 }
 
 // Each value behind a space.

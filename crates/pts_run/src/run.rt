@@ -1,14 +1,11 @@
 //! Running the statements of a program in order, and writing each one's line.
 
-ghost use Rattle.std.specs.Prelude.{◌≡◌, ◌≤◌, ◌++◌, List, ℕ, false, length, None, Err, OnOk};
-ghost use Rattle.std.specs.Io.{StartsWith};
-ghost use Rattle.std.specs.Io.KnownBytes.{Appends};
-ghost use Rattle.pts_io.specs.Streams.{HasRisen};
+ghost use Rattle.std.specs.Prelude.{◌≡◌, ◌++◌, false, length, None, OnOk};
 ghost use Rattle.pts_print.specs.Canonical.{canonical};
 ghost use Rattle.pts_eval.specs.Runs.{Answer, Performs, name_at};
 ghost use Rattle.pts_eval.specs.Works.{first_later, is_later};
 ghost use Rattle.pts_run.specs.declared.run.WriteEnd.TheVariants.{Fault, NoMemory};
-ghost use Rattle.pts_run.specs.Writing.{WritesRun, WritesRunPart};
+ghost use Rattle.pts_run.specs.Writing.{IsCounted, WritesRun, WritesRunPart, WritesText};
 ghost use Rattle.pts_run.specs.Text.{accepted_line, line_of, refusal_line};
 
 use crate::lines::{push_printed, push_reduced, push_refusal};
@@ -59,8 +56,7 @@ pub fn run_program<K: Sink>(alloc: Global, program: &Program, sink: &mut K) -> R
     requires { first_later program.now ≡ None }
     ensures whole { OnOk result (WritesRun program.now (length program.now.statements) (K.written sink.old) (K.written sink.new)) }
     ensures part { WritesRunPart program.now (K.written sink.old) (K.written sink.new) }
-    ensures fault { result ≡ Err WriteEnd.Fault → HasRisen (K.faults sink.old) (K.faults sink.new) }
-    ensures counts { K.faults sink.old ≤ K.faults sink.new }
+    ensures counted { IsCounted result (K.faults sink.old) (K.faults sink.new) }
 {
     let store = Store::start(alloc, program)?;
     let mut line = Vec::new(alloc);
@@ -74,10 +70,8 @@ pub fn run_program<K: Sink>(alloc: Global, program: &Program, sink: &mut K) -> R
 
 /// Writes the line of a script that is accepted.
 pub fn write_accepted<K: Sink>(sink: &mut K) -> Result<(), WriteEnd>
-    ensures whole { OnOk result (Appends (K.written sink.old) (K.written sink.new) accepted_line) }
-    ensures part { (text : List ℕ) × StartsWith accepted_line text × Appends (K.written sink.old) (K.written sink.new) text }
-    ensures fault { result ≡ Err WriteEnd.Fault → HasRisen (K.faults sink.old) (K.faults sink.new) }
-    ensures counts { K.faults sink.old ≤ K.faults sink.new }
+    ensures writes { WritesText accepted_line result (K.written sink.old) (K.written sink.new) }
+    ensures counted { IsCounted result (K.faults sink.old) (K.faults sink.new) }
 {
     write_all(sink, b"accepted\n")?;
     Ok(())
@@ -85,10 +79,8 @@ pub fn write_accepted<K: Sink>(sink: &mut K) -> Result<(), WriteEnd>
 
 /// Writes the line of a refusal.
 pub fn write_refusal<K: Sink>(alloc: Global, refusal: Refusal, sink: &mut K) -> Result<(), WriteEnd>
-    ensures whole { OnOk result (Appends (K.written sink.old) (K.written sink.new) (refusal_line refusal)) }
-    ensures part { (text : List ℕ) × StartsWith (refusal_line refusal) text × Appends (K.written sink.old) (K.written sink.new) text }
-    ensures fault { result ≡ Err WriteEnd.Fault → HasRisen (K.faults sink.old) (K.faults sink.new) }
-    ensures counts { K.faults sink.old ≤ K.faults sink.new }
+    ensures writes { WritesText (refusal_line refusal) result (K.written sink.old) (K.written sink.new) }
+    ensures counted { IsCounted result (K.faults sink.old) (K.faults sink.new) }
 {
     let mut line = Vec::new(alloc);
     push_refusal(&mut line, refusal)?;
@@ -102,10 +94,8 @@ pub fn write_canonical<K: Sink>(
     script: &Script,
     sink: &mut K,
 ) -> Result<(), WriteEnd>
-    ensures whole { OnOk result (Appends (K.written sink.old) (K.written sink.new) (canonical script.now)) }
-    ensures part { (text : List ℕ) × StartsWith (canonical script.now) text × Appends (K.written sink.old) (K.written sink.new) text }
-    ensures fault { result ≡ Err WriteEnd.Fault → HasRisen (K.faults sink.old) (K.faults sink.new) }
-    ensures counts { K.faults sink.old ≤ K.faults sink.new }
+    ensures writes { WritesText (canonical script.now) result (K.written sink.old) (K.written sink.new) }
+    ensures counted { IsCounted result (K.faults sink.old) (K.faults sink.new) }
 {
     let text = print(alloc, script)?;
     write_all(sink, &text)?;

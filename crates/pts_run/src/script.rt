@@ -57,10 +57,7 @@ fn fault_of(fault: SyntaxFault) -> ScriptFault
     ensures not_long { result ≢ ScriptFault.Refused Refusal.TooLong }
 {
     match fault.kind {
-        SyntaxKind::Byte => ScriptFault::Refused(Refusal::Byte(fault.at)),
-        SyntaxKind::Number => ScriptFault::Refused(Refusal::Number(fault.at)),
-        SyntaxKind::Unexpected => ScriptFault::Refused(Refusal::Syntax(fault.at)),
-        SyntaxKind::Nesting => ScriptFault::Refused(Refusal::Nesting(fault.at)),
         SyntaxKind::NoMemory => ScriptFault::NoMemory,
+        _ => ScriptFault::Refused(Refusal::Syntax(fault)),
     }
 }

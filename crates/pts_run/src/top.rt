@@ -5,8 +5,10 @@ ghost use Rattle.std.specs.Io.KnownBytes.{IsAtEnd};
 ghost use Rattle.pts_io.specs.Streams.{HasRisen};
 ghost use Rattle.pts_run.specs.Output.{IsAsScriptSays, Wrote, WrotePart, script_limit};
 ghost use Rattle.pts_run.specs.Words.{IsCommand};
+ghost use Rattle.pts_run.specs.Writing as spec;
 
-use crate::answer::{answer, refuse};
+use crate::answer::{Finish, answer, refuse};
+use crate::run::WriteEnd;
 use crate::script::{ScriptFault, read_script};
 use crate::status::Status;
 use crate::words::{Command, read_words};
@@ -61,9 +63,21 @@ pub fn run_words<S: Source, K: Sink>(
         return Status::Usage;
     };
     match read_script(alloc, source) {
-        Ok(script) => answer(alloc, command, &script, sink),
-        Err(ScriptFault::Refused(refusal)) => refuse(alloc, refusal, sink),
+        Ok(script) => status_of(answer(alloc, command, &script, sink)),
+        Err(ScriptFault::Refused(refusal)) => status_of(refuse(alloc, refusal, sink)),
         Err(ScriptFault::Source) => Status::ReadFault,
         Err(ScriptFault::NoMemory) => Status::NoMemory,
+    }
+}
+
+// How the call ends, by what the command wrote.
+fn status_of(ended: Result<Finish, WriteEnd>) -> Status
+    ensures { result ≡ spec.status_of ended }
+{
+    match ended {
+        Ok(Finish::Done) => Status::Done,
+        Ok(Finish::Refused) => Status::Refused,
+        Err(WriteEnd::Fault) => Status::WriteFault,
+        Err(WriteEnd::NoMemory) => Status::NoMemory,
     }
 }

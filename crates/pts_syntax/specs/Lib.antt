@@ -1,2 +1,3 @@
+pub mod KindNames
 pub mod Syntax
 pub mod TokenTexts

@@ -25,6 +25,24 @@ pub enum SyntaxKind {
     NoMemory,
 }
 
+impl SyntaxKind {
+    ghost use Rattle.std.specs.Prelude.{◌≡◌};
+    ghost use Rattle.pts_syntax.specs.KindNames as spec;
+
+    /// The name of the fault, as the line of a refusal has it.
+    pub fn name(self) -> &'static str
+        ensures { result.now ≡ spec.kind_name self }
+    {
+        match self {
+            SyntaxKind::Byte => "byte",
+            SyntaxKind::Number => "number",
+            SyntaxKind::Unexpected => "syntax",
+            SyntaxKind::Nesting => "nesting",
+            SyntaxKind::NoMemory => "no_memory",
+        }
+    }
+}
+
 /// Why a text is no script, and where, in bytes from 0 on. For want of memory the place is 0.
 #[derive(Clone, Copy, Debug, PartialEq, Eq)]
 pub struct SyntaxFault {

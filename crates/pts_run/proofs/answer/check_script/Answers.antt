@@ -5,8 +5,7 @@ use Rattle.pts_run.proofs.answer.check_script.Goals as goal
 
 pub returns-in-Ok-clause-ends : goal.returns-in-Ok-clause-ends
 returns-in-Ok-clause-ends g c = λ bytes reads.
-    let part = c.write_accepted.ensures.part in
-    check_ends bytes c.args.script.now c.in-Ok._program c.write_accepted.result c.status_of.result part.0 _ _ reads c.in-Ok.ensures.accepted c.write_accepted.ensures.whole part.1 part.2 c.status_of.ensures
+    rw c.finished.ensures (check_ends bytes c.args.script.now c.in-Ok._program c.write_accepted.result _ _ reads c.in-Ok.ensures.accepted c.write_accepted.ensures.writes)
 
 pub returns-in-Err-clause-ends : goal.returns-in-Err-clause-ends
 returns-in-Err-clause-ends g c = λ bytes reads.

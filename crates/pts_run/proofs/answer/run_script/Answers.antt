@@ -5,7 +5,8 @@ use Rattle.pts_run.proofs.answer.run_script.Goals as goal
 
 pub returns-in-Ok-clause-ends : goal.returns-in-Ok-clause-ends
 returns-in-Ok-clause-ends g c = λ pool bytes reads.
-    run_ends pool bytes c.args.script.now c.in-Ok.program c.run_program.result c.status_of.result _ _ reads c.in-Ok.ensures.accepted c.run_program.ensures.whole c.run_program.ensures.part c.status_of.ensures
+    rw c.finished.ensures
+    (run_ends pool bytes c.args.script.now c.in-Ok.program c.run_program.result _ _ reads c.in-Ok.ensures.accepted c.run_program.ensures.whole c.run_program.ensures.part)
 
 pub returns-in-Err-clause-ends : goal.returns-in-Err-clause-ends
 returns-in-Err-clause-ends g c = λ pool bytes reads.
