@@ -21,6 +21,7 @@ use Rattle.pts_rules.specs.Limits.{cells}
 use Rattle.pts_rules.specs.Mistyped.{start_right}
 use Rattle.pts_rules.specs.Scopes.{after, known}
 use Rattle.pts_rules.specs.Steps.{list_differs}
+use Rattle.pts_syntax.proofs.Writable.{few_items}
 use Rattle.pts_starts.specs.Starts.{start_cells, value_of_val}
 use Rattle.pts_points.specs.declared.point.PointInfo.{PointInfo}
 use Rattle.pts_points.specs.Inside.{HasRoom, IsInside, lengths}
@@ -233,7 +234,7 @@ pub program_inside : (lists : Lists) → IsProgram lists → (before : List Item
 program_inside lists h = (
   h.script.items,
   subst (AreInside h.script.items) (sym h.made)
-      (inside_all [] h.script.items no_lists (all_keep h.script [] h.script.items refl h.sound) (omega (arith, h.few)) none_inside),
+      (inside_all [] h.script.items no_lists (all_keep h.script [] h.script.items refl h.sound) (let few = few_items h.script h.spelled in omega (arith, few)) none_inside),
 )
 
 -- every point of a program is in range

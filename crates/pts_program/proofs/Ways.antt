@@ -5,6 +5,8 @@ use Rattle.std.proofs.lemmas.List.{drop_more, drop_all}
 use Rattle.std.proofs.lemmas.Option.{slice_get-get_or}
 use Rattle.pts_tree.specs.declared.script.Item.{Item}
 use Rattle.pts_tree.specs.declared.script.Script.{Script}
+use Rattle.pts_syntax.specs.Syntax.{IsSpelled}
+use Rattle.pts_syntax.proofs.Writable.{few_items}
 use Rattle.pts_program.specs.declared.builder.Builder.{Builder}
 use Rattle.pts_program.specs.declared.fault.BuildFault.{BuildFault}
 use Rattle.pts_program.specs.declared.fault.BuildFault.TheVariants.{NoMemory}
@@ -88,10 +90,10 @@ finished script n builder way past = (
 )
 
 -- and then the lists are those of a program
-pub programmed : (script : Script) (n : ℕ) (builder : Builder) → IsUnderWay script n builder → length script.items ≤ n → length script.items < 2 ^ 32 → IsProgram builder.lists
-programmed script n builder way past few =
+pub programmed : (script : Script) (n : ℕ) (builder : Builder) → IsUnderWay script n builder → length script.items ≤ n → IsSpelled script → IsProgram builder.lists
+programmed script n builder way past spelled =
     let end = finished script n builder way past in
-    record { script = script; sound = end.0; few = few; made = end.1 }
+    record { script = script; sound = end.0; spelled = spelled; made = end.1 }
 
 -- the fault of an item whose earlier ones break no rule is that of the script
 refused : (script : Script) (n : ℕ) (x : Item) (builder : Builder) (fault : BuildFault) → IsUnderWay script n builder → n < length script.items → x ≡ get_or script.items n x
@@ -104,8 +106,8 @@ refused script n x builder fault way within is f =
       here = fault-at script n x fault here (subst (λ k. IsFaultOf script.version (take n script.items) x k fault) count (f.in_each script.version));
     }
 
-pub room : (script : Script) (n : ℕ) (builder : Builder) → IsUnderWay script n builder → n < length script.items → length script.items < 2 ^ 32 → HasRoom builder
-room script n builder way within short = record { items = let e = way.items in omega (arith, e, within, short); statements = way.statements }
+pub room : (script : Script) (n : ℕ) (builder : Builder) → IsUnderWay script n builder → n < length script.items → IsSpelled script → HasRoom builder
+room script n builder way within spelled = record { items = let e = way.items in let few = few_items script spelled in omega (arith, e, within, few); statements = way.statements }
 
 -- the answer of the builder at such an item
 pub refusal : (script : Script) (n : ℕ) (x : Item) (builder : Builder) (fault : BuildFault) → IsUnderWay script n builder → n < length script.items → x ≡ get_or script.items n x

@@ -1,10 +1,11 @@
 -- The lists of a script: arrays, functions, statements, calls, points, blocks and texts, in text order.
-use Rattle.std.specs.Prelude.{◌≡◌, ℕ, ◌+◌, ◌<◌, ◌^◌, List, [], ◌∷◌, ◌++◌, length, map, take, drop, slice_get, None, Some}
+use Rattle.std.specs.Prelude.{◌≡◌, ℕ, ◌+◌, List, [], ◌∷◌, ◌++◌, length, map, take, drop, slice_get, None, Some}
 use Rattle.pts_tree.specs.declared.script.Item.{Item}
 use Rattle.pts_tree.specs.declared.script.Item.TheVariants as items
 use Rattle.pts_tree.specs.declared.script.Script.{Script}
 use Rattle.pts_rules.specs.Known.{Scope, natural, number}
 use Rattle.pts_rules.specs.Scopes.{known}
+use Rattle.pts_syntax.specs.Syntax.{IsSpelled}
 use Rattle.pts_code.specs.declared.function.FunctionInfo.{FunctionInfo}
 use Rattle.pts_constants.specs.Resolved.{resolved_expr}
 use Rattle.pts_constants.specs.Texts.{texts_of}
@@ -78,9 +79,9 @@ points_of_call lists call =
       | Some start ↦ elim (slice_get lists.calls call) [ None ↦ [] | Some info ↦ take info.points (drop start lists.points) ]
     ]
 
--- the lists of a script of fewer than 2^32 items that breaks no rule
+-- the lists of a script that the grammar spells and that breaks no rule
 pub record IsProgram (lists : Lists) : Type 0 where
   pub script : Script
   pub sound : IsSound script
-  pub few : length script.items < 2 ^ 32
+  pub spelled : IsSpelled script
   pub made : lists ≡ lists_of script

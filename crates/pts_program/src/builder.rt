@@ -3,6 +3,7 @@
 ghost use Rattle.std.specs.Prelude.{◌≡◌, ◌⊎◌, ℕ, ◌+◌, ◌-◌, ◌<◌, ◌≤◌, ◌^◌, [], ◌∷◌, ◌++◌, List, length, IfErr, IfOk, OnOk};
 ghost use Rattle.pts_tree.specs.declared.script.Item.{Item as ItemTree};
 ghost use Rattle.pts_rules.specs.Scopes.{known};
+ghost use Rattle.pts_syntax.specs.Syntax.{IsSpelled};
 ghost use Rattle.pts_program.specs.declared.fault.BuildFault.TheVariants as faults;
 ghost use Rattle.pts_program.specs.Building.{HasRoom};
 ghost use Rattle.pts_program.specs.Faults.{IsFaultAt, IsSound};
@@ -58,11 +59,11 @@ impl Builder {
     }
 }
 
-/// The program of a script of less than 2^32 items, or the fault of its first item that breaks a rule, which names the first
+/// The program of a script that the grammar spells in fewer than 2^32 tokens, or the fault of its first item that breaks a rule, which names the first
 /// rule that it breaks.
 #[tactic(auto, using(crate::proofs::Ways::started, crate::proofs::Ways::one_more, crate::proofs::Ways::finished, crate::proofs::Ways::programmed, crate::proofs::Ways::room))]
 pub fn build(alloc: Global, script: &Script) -> Result<Program, BuildFault>
-    requires { length script.now.items < 2 ^ 32 }
+    requires { IsSpelled script.now }
     ensures program { IfOk result (λ program. IsSound script.now × (program ≡ spec.lists_of script.now)) }
     ensures fault { IfErr result (λ fault. (fault ≡ faults.NoMemory) ⊎ ((n : ℕ) × IsFaultAt script.now n fault)) }
 {

@@ -1,6 +1,7 @@
 //! Which scripts are run: those that break no rule, and whose statements are all built.
 
 ghost use Rattle.std.specs.Prelude.{◌≡◌, ◌<◌, ◌^◌, length, Err, IfOk};
+ghost use Rattle.pts_syntax.specs.Syntax.{IsSpelled};
 ghost use Rattle.pts_run.specs.declared.refusal.Refusal.{Refusal as Reason};
 ghost use Rattle.pts_run.specs.Acceptance as spec;
 
@@ -33,7 +34,7 @@ impl From<BuildFault> for Rejection {
 
 /// The program of a script, or why it is not run.
 pub fn accept(alloc: Global, script: &Script) -> Result<Program, Rejection>
-    requires { length script.now.items < 2 ^ 32 }
+    requires { IsSpelled script.now }
     ensures accepted { IfOk result (spec.IsAccepted script.now) }
     ensures rejected { (reason : Reason) → result ≡ Err (Rejection.Refused reason) → spec.Rejects script.now reason }
 {

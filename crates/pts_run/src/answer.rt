@@ -1,6 +1,7 @@
 //! What a command writes for the script that it was given.
 
 ghost use Rattle.std.specs.Prelude.{◌≡◌, ◌≢◌, ◌<◌, ◌^◌, ℕ, List, Ok, length};
+ghost use Rattle.pts_syntax.specs.Syntax.{IsSpelled};
 ghost use Rattle.pts_run.specs.Output.{Reads, Refuses};
 ghost use Rattle.pts_boards.specs.declared.pool.Pool.{Pool as PoolOf};
 ghost use Rattle.pts_run.specs.declared.accept.Rejection.TheVariants as rejections;
@@ -33,7 +34,7 @@ pub fn answer<K: Sink>(
     script: &Script,
     sink: &mut K,
 ) -> Result<Finish, WriteEnd>
-    requires { length script.now.items < 2 ^ 32 }
+    requires { IsSpelled script.now }
     ensures ends { (bytes : List ℕ) → Reads bytes script.now → Ends command bytes result (K.written sink.old) (K.written sink.new) }
     ensures counted { IsCounted result (K.faults sink.old) (K.faults sink.new) }
 {
@@ -45,7 +46,7 @@ pub fn answer<K: Sink>(
 }
 
 fn run_script<K: Sink>(alloc: Global, script: &Script, sink: &mut K) -> Result<Finish, WriteEnd>
-    requires { length script.now.items < 2 ^ 32 }
+    requires { IsSpelled script.now }
     ensures ends { (pool : PoolOf) (bytes : List ℕ) → Reads bytes script.now → Ends (commands.Run pool) bytes result (K.written sink.old) (K.written sink.new) }
     ensures counted { IsCounted result (K.faults sink.old) (K.faults sink.new) }
 {
@@ -56,7 +57,7 @@ fn run_script<K: Sink>(alloc: Global, script: &Script, sink: &mut K) -> Result<F
 }
 
 fn check_script<K: Sink>(alloc: Global, script: &Script, sink: &mut K) -> Result<Finish, WriteEnd>
-    requires { length script.now.items < 2 ^ 32 }
+    requires { IsSpelled script.now }
     ensures ends { (bytes : List ℕ) → Reads bytes script.now → Ends commands.Check bytes result (K.written sink.old) (K.written sink.new) }
     ensures counted { IsCounted result (K.faults sink.old) (K.faults sink.new) }
 {

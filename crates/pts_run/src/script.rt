@@ -3,7 +3,7 @@
 ghost use Rattle.std.specs.Prelude.{◌≡◌, ◌≢◌, ◌<◌, ◌≤◌, ◌^◌, ℕ, List, length, Err, IfOk, IfSome, OnOk};
 ghost use Rattle.std.specs.Io.KnownBytes.{IsAtEnd};
 ghost use Rattle.pts_io.specs.Streams.{HasRisen};
-ghost use Rattle.pts_syntax.specs.Syntax.{Explains};
+ghost use Rattle.pts_syntax.specs.Syntax.{Explains, IsSpelled};
 ghost use Rattle.pts_run.specs.declared.words.Command.{Command};
 ghost use Rattle.pts_run.specs.Output.{Reads, Refuses, script_limit};
 
@@ -28,7 +28,7 @@ pub enum ScriptFault {
 pub fn read_script<S: Source>(alloc: Global, source: &mut S) -> Result<Script, ScriptFault>
     ensures reads { IfOk result (λ script. IfSome (S.left source.old) (λ bytes. Reads bytes script)) }
     ensures end { OnOk result (IsAtEnd (S.left source.new)) }
-    ensures few { IfOk result (λ script. length script.items < 2 ^ 32) }
+    ensures spelled { IfOk result IsSpelled }
 
     // A refusal names its reason, whatever the command, and only TooLong comes before the end.
     ensures refuses { (command : Command) (reason : Refusal) → result ≡ Err (ScriptFault.Refused reason)

@@ -1,10 +1,11 @@
-pub mod MarkTexts
-pub mod Ascii
-pub mod TokenPlaces
 pub mod Answering
-pub mod SayableSigns
-pub mod WrittenSigns
+pub mod Ascii
 pub mod CanonicalTokens
+pub mod MarkTexts
 pub mod OneAnswer
 pub mod OneFault
 pub mod ReadBack
+pub mod SayableSigns
+pub mod TokenPlaces
+pub mod Writable
+pub mod WrittenSigns

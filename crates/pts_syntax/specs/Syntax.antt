@@ -91,3 +91,8 @@ pub record IsWritable (x : Script) : Type 0 where
   pub allowed : script_allowed x ≡ true
   pub sayable : AreSayable (script x [])
   pub brackets : beyond bracket_limit (script x []) ≡ None
+
+-- the grammar spells this script in fewer than 2^32 tokens
+pub record IsSpelled (x : Script) : Type 0 where
+  pub writable : IsWritable x
+  pub few : length (script x []) < 2 ^ 32

@@ -23,6 +23,12 @@ pub fn one_fault()
         → one.kind ≢ NoMemory → other.kind ≢ NoMemory → one ≡ other }
 {}
 
+/// A law: the grammar has each script that is read, its names and numbers are those of tokens, and no bracket of it is one
+/// too many.
+pub fn what_is_read_is_writable()
+    ensures { (bytes : List ℕ) (x : Script) → IsParsed bytes x → IsWritable x }
+{}
+
 /// A law: what a script of the grammar prints as is read as that script. With `one_script` and `no_fault_of_a_script`, what
 /// `parse` answers for the bytes that `print` gives is that script and nothing else, unless memory runs out.
 pub fn print_is_read_back()
