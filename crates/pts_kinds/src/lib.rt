@@ -11,8 +11,6 @@ mod names;
 mod numbers;
 mod starts;
 mod tasks;
-#[cfg(test)]
-mod tests;
 
 pub use exprs::expr_typing;
 pub use items::is_right;

@@ -8,7 +8,5 @@ mod items;
 mod locals;
 mod loops;
 mod parts;
-#[cfg(test)]
-mod tests;
 
 pub use items::{declares_twice, uses_unknown};

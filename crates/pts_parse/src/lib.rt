@@ -9,8 +9,6 @@ mod loops;
 mod reader;
 mod script;
 mod sums;
-#[cfg(test)]
-mod tests;
 
 pub use laws::{begins_in_parts, one_reading, rules_match_what_is_spelled};
 pub use reader::Stop;

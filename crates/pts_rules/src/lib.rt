@@ -4,8 +4,6 @@
 mod meaning;
 mod scope;
 mod sums;
-#[cfg(test)]
-mod tests;
 
 pub use meaning::{Meaning, Signature};
 pub use scope::Scope;

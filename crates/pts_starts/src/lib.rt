@@ -2,8 +2,6 @@
 #![tactic(auto)]
 
 mod starts;
-#[cfg(test)]
-mod tests;
 mod values;
 
 pub use starts::start_cells;

@@ -11,8 +11,6 @@ mod name;
 mod script;
 mod sign;
 mod sum;
-#[cfg(test)]
-mod tests;
 
 pub use block::{Block, TaskStmt};
 pub use call::{Call, CallForm, Op};
