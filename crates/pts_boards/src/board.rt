@@ -135,7 +135,7 @@ impl<K: Knowledge> Board<K> {
         ensures terms { IfOk result (λ made. made.0.terms ≡ terms) }
         ensures seat { IfOk result (λ made. made.1 ≡ record { board = made.0.table.shared.table_id; weight = terms.shares; known = K.sort.nothing }) }
     {
-        let (table, seat) = Table::of_words(alloc, &[word], &terms).map_err(|_| NoMemory)?;
+        let (table, seat) = Table::of_words(alloc, &[word], &terms)?;
         Ok((Board { table, terms }, Chair { seat }))
     }
 

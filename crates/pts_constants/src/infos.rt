@@ -152,5 +152,5 @@ pub fn add_blocks(
 ) -> Result<(), NoMemory>
     ensures { OnOk result (blocks.new ≡ blocks.old ++ spec.blocks_of scope.now number item.now) }
 {
-    add_item(alloc, scope, number, item, blocks).map_err(|_| NoMemory)
+    Ok(add_item(alloc, scope, number, item, blocks)?)
 }

@@ -103,5 +103,5 @@ pub fn add_texts(
 ) -> Result<(), NoMemory>
     ensures { OnOk result (texts.new ≡ texts.old ++ spec.texts_of scope.now item.now) }
 {
-    add_item(alloc, scope, item, texts).map_err(|_| NoMemory)
+    Ok(add_item(alloc, scope, item, texts)?)
 }

@@ -29,7 +29,7 @@ impl Store {
     pub fn start(alloc: Global, program: &Program) -> Result<Store, NoMemory>
         ensures { IfOk result (λ store. store ≡ spec.start_store program.now) }
     {
-        let arrays = start_cells(alloc, program.arrays()).map_err(|_| NoMemory)?;
+        let arrays = start_cells(alloc, program.arrays())?;
         Ok(Store { arrays })
     }
 

@@ -94,7 +94,7 @@ impl MemorySink {
         ensures ok { IfOk result (λ sink. sink ≡ new_sink room fails.items) }
         ensures empty { room ≡ 0 → IsOk result }
     {
-        let bytes = Vec::with_capacity(alloc, room).map_err(|_| NoMemory)?;
+        let bytes = Vec::with_capacity(alloc, room)?;
         Ok(MemorySink {
             bytes,
             room,

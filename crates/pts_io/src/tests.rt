@@ -68,7 +68,7 @@ fn source(alloc: Global, failing: u64) -> Result<MemorySource, AllocError> {
 }
 
 fn sink(alloc: Global, room: usize, failing: u64) -> Result<MemorySink, NoMemory> {
-    let fails = [failing].to_vec(alloc).map_err(|_| NoMemory)?;
+    let fails = [failing].to_vec(alloc)?;
     MemorySink::new(alloc, room, fails)
 }
 

@@ -135,7 +135,7 @@ fn enter_head(scope: &mut Scope, alloc: Global, x: &Loop) -> Result<(), NoMemory
     ensures { OnOk result (scope.new ≡ spec.body_scope scope.old x.now) }
 {
     let clauses = x.clauses.as_slice();
-    let kinds = local_kinds(scope, alloc, clauses).map_err(|_| NoMemory)?;
+    let kinds = local_kinds(scope, alloc, clauses)?;
     enter_locals(scope, alloc, clauses, kinds.as_slice())?;
     scope.enter(alloc, &x.index, Meaning::Value(Kind::I64))
 }

@@ -92,5 +92,5 @@ fn script_bytes(alloc: Global, script: &Script) -> Result<Vec<u8>, AllocError>
 pub fn print(alloc: Global, script: &Script) -> Result<Vec<u8>, NoMemory>
     ensures { IfOk result (λ bytes. bytes.items ≡ canonical script.now) }
 {
-    script_bytes(alloc, script).map_err(|_| NoMemory)
+    Ok(script_bytes(alloc, script)?)
 }

@@ -78,7 +78,7 @@ fn array_info(alloc: Global, scope: &Scope, array: &ArrayDecl) -> Result<ArrayIn
 {
     let length = length_of(scope, &array.length);
     Ok(ArrayInfo {
-        name: copy_name(alloc, &array.name).map_err(|_| NoMemory)?,
+        name: copy_name(alloc, &array.name)?,
         kind: array.kind,
         cells: start_cells(alloc, scope, array.kind, length, &array.start)?,
     })
@@ -110,7 +110,7 @@ fn add_array(
 {
     if let Item::Array(array) = item {
         let info = array_info(alloc, scope, array)?;
-        arrays.push(info).map_err(|_| NoMemory)?;
+        arrays.push(info)?;
     }
     Ok(())
 }
@@ -125,7 +125,7 @@ fn push_function(
     requires { is_large scope.now function.now ≡ false }
     ensures { OnOk result (functions.new ≡ functions.old ++ spec.functions_of scope.now (items.Function function.now)) }
 {
-    let info = function_info(alloc, scope, function).map_err(|_| NoMemory)?;
+    let info = function_info(alloc, scope, function)?;
     let earlier = replace(functions, Codes::new(alloc));
     *functions = earlier.push(alloc, info)?;
     Ok(())
@@ -220,7 +220,7 @@ pub fn add_item(
     let first_call = lists.calls.len();
     let first_point = lists.points.len();
     add_names(alloc, scope, item, lists)?;
-    add_statement(scope, calls, blocks, item, &mut lists.statements).map_err(|_| NoMemory)?;
+    add_statement(scope, calls, blocks, item, &mut lists.statements)?;
     add_points(
         alloc,
         scope,
@@ -231,7 +231,7 @@ pub fn add_item(
         &mut lists.calls,
     )?;
     let new_calls = &lists.calls.as_slice()[first_call..];
-    add_starts(first_point, new_calls, &mut lists.call_starts).map_err(|_| NoMemory)?;
+    add_starts(first_point, new_calls, &mut lists.call_starts)?;
     add_blocks(alloc, scope, number, item, &mut lists.blocks)?;
     add_texts(alloc, scope, item, &mut lists.texts)
 }

@@ -80,7 +80,7 @@ fn enter_function(alloc: Global, scope: &mut Scope, function: &FunctionDecl) -> 
     requires few { limits.is_large scope.old function.now ≡ false }
     ensures { OnOk result (scope.new ≡ spec.after scope.old (items.Function function.now)) }
 {
-    let signature = signature(alloc, scope, function).map_err(|_| NoMemory)?;
+    let signature = signature(alloc, scope, function)?;
     scope.enter(alloc, &function.name, Meaning::Function(signature))
 }
 

@@ -246,7 +246,7 @@ impl Scope {
         requires { IsTrue (spec.is_in_bounds meaning) }
         ensures { OnOk result (self.new ≡ (name.now, meaning) ∷ self.old) }
     {
-        self.push(alloc, name, meaning).map_err(|_| NoMemory)
+        Ok(self.push(alloc, name, meaning)?)
     }
 
     fn push(&mut self, alloc: Global, name: &Name, meaning: Meaning) -> Result<(), AllocError>

@@ -173,5 +173,5 @@ pub fn start_cells(
     requires { IsTrue (start_right scope.now kind length start.now) }
     ensures { IfOk result (λ cells. cells ≡ spec.start_cells scope.now kind length start.now) }
 {
-    make_cells(alloc, scope, kind, length, start).map_err(|_| NoMemory)
+    Ok(make_cells(alloc, scope, kind, length, start)?)
 }
