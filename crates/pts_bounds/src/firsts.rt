@@ -109,5 +109,10 @@ fn start(progression: Progression, index: Affine) -> i128
 pub fn index_first(progression: Progression, index: Affine, length: i64) -> Option<u64>
     ensures { result ≡ spec.first_off (rules.line_of progression.first progression.step progression.n (line_of_index index)) length }
 {
-    first_off(slope(progression, index), start(progression, index), progression.n, length)
+    first_off(
+        slope(progression, index),
+        start(progression, index),
+        progression.n,
+        length,
+    )
 }

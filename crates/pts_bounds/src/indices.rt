@@ -57,17 +57,20 @@ fn expr_is_not_affine(scope: &Scope, index: Option<&Name>, expr: &Expr) -> bool
         Expr::Throw(_) => false,
         Expr::Call(_, arguments) => exprs_are_not_affine(scope, index, arguments.as_slice()),
         Expr::Element(_, at) => {
-            index_is_not_affine(scope, index, at.get()) || expr_is_not_affine(scope, index, at.get())
+            index_is_not_affine(scope, index, at.get())
+                || expr_is_not_affine(scope, index, at.get())
         }
         Expr::Convert(_, expr) => expr_is_not_affine(scope, index, expr.get()),
         Expr::Paren(expr) => expr_is_not_affine(scope, index, expr.get()),
         Expr::Minus(expr) => expr_is_not_affine(scope, index, expr.get()),
         Expr::Not(expr) => expr_is_not_affine(scope, index, expr.get()),
         Expr::Chain(first, chain) => {
-            expr_is_not_affine(scope, index, first.get()) || parts_are_not_affine(scope, index, chain.as_slice())
+            expr_is_not_affine(scope, index, first.get())
+                || parts_are_not_affine(scope, index, chain.as_slice())
         }
         Expr::Compare(_, left, right) => {
-            expr_is_not_affine(scope, index, left.get()) || expr_is_not_affine(scope, index, right.get())
+            expr_is_not_affine(scope, index, left.get())
+                || expr_is_not_affine(scope, index, right.get())
         }
         Expr::All(exprs) => exprs_are_not_affine(scope, index, exprs.as_slice()),
         Expr::Any(exprs) => exprs_are_not_affine(scope, index, exprs.as_slice()),

@@ -6,9 +6,9 @@ ghost use Rattle.pts_bounds.specs.Firsts.{soonest};
 ghost use Rattle.pts_bounds.specs.Walks as spec;
 ghost use Rattle.pts_rules.specs.Indices as rules;
 
+use crate::affine::affine_of;
 use crate::firsts::{Progression, index_first, sooner};
 use crate::ranges::length_of;
-use crate::affine::affine_of;
 use pts_rules::Scope;
 use pts_tree::{BodyStmt, ChainPart, Expr, Name, Place};
 
@@ -29,7 +29,12 @@ fn element_first(
 }
 
 #[cycle(expr_first)]
-fn exprs_first(scope: &Scope, progression: Progression, index: Option<&Name>, exprs: &[Expr]) -> Option<u64>
+fn exprs_first(
+    scope: &Scope,
+    progression: Progression,
+    index: Option<&Name>,
+    exprs: &[Expr],
+) -> Option<u64>
     ensures { result ≡ soonest (λ x. soonest (spec.place_first scope.now progression (option_copied index.entry)) (rules.elements x)) exprs.now }
 {
     let mut first = None;
@@ -58,7 +63,12 @@ fn parts_first(
 // Of the elements that an expression reads.
 #[cycle(expr_first)]
 #[tactic(auto, using(crate::proofs::Elements::elements_by_form))]
-pub fn expr_first(scope: &Scope, progression: Progression, index: Option<&Name>, expr: &Expr) -> Option<u64>
+pub fn expr_first(
+    scope: &Scope,
+    progression: Progression,
+    index: Option<&Name>,
+    expr: &Expr,
+) -> Option<u64>
     ensures { result ≡ soonest (spec.place_first scope.now progression (option_copied index.entry)) (rules.elements expr.now) }
 {
     match expr {
@@ -133,7 +143,12 @@ pub fn body_first(
 // Of the elements that a statement reads and writes.
 #[cycle(stmt_first)]
 #[tactic(auto, using(crate::proofs::Elements::places_by_form))]
-fn stmt_first(scope: &Scope, progression: Progression, index: Option<&Name>, stmt: &BodyStmt) -> Option<u64>
+fn stmt_first(
+    scope: &Scope,
+    progression: Progression,
+    index: Option<&Name>,
+    stmt: &BodyStmt,
+) -> Option<u64>
     ensures { result ≡ soonest (spec.place_first scope.now progression (option_copied index.entry)) (rules.places stmt.now) }
 {
     match stmt {
@@ -146,7 +161,10 @@ fn stmt_first(scope: &Scope, progression: Progression, index: Option<&Name>, stm
                 body_first(scope, progression, index, then.as_slice()),
             );
             match other {
-                Some(other) => sooner(first, body_first(scope, progression, index, other.as_slice())),
+                Some(other) => sooner(
+                    first,
+                    body_first(scope, progression, index, other.as_slice()),
+                ),
                 None => first,
             }
         }

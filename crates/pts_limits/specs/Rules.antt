@@ -1,15 +1,11 @@
 -- The rules that a call or a loop breaks by itself.
-use Rattle.std.specs.Prelude.{ℕ, ◌+◌, ◌^◌, nat_lt, Bool, false, ◌||◌, length}
+use Rattle.std.specs.Prelude.{Bool}
 use Rattle.std.specs.List.{list_any}
-use Rattle.pts_tree.specs.declared.script.ArrayDecl.{ArrayDecl}
-use Rattle.pts_tree.specs.declared.script.FunctionDecl.{FunctionDecl}
 use Rattle.pts_tree.specs.declared.script.Item.{Item}
-use Rattle.pts_tree.specs.declared.script.Item.TheVariants as items
 use Rattle.pts_rules.specs.Parts.{Simple, statements}
-use Rattle.pts_rules.specs.Known.{Scope, natural, number}
-use Rattle.pts_rules.specs.Counts.{depth_of, size_of, nesting, runs}
-use Rattle.pts_rules.specs.Limits.{is_long, points}
-use Rattle.pts_rules.specs.Steps.{steps_badly, goes_backward, differs_in_length, list_differs, has_wrong_identity}
+use Rattle.pts_rules.specs.Known.{Scope}
+use Rattle.pts_rules.specs.Limits.{is_long}
+use Rattle.pts_rules.specs.Steps.{steps_badly, goes_backward, differs_in_length, has_wrong_identity}
 use Rattle.pts_limits.specs.declared.statements.StatementRule.{StatementRule}
 use Rattle.pts_limits.specs.declared.statements.StatementRule.TheVariants as rules
 

@@ -5,6 +5,8 @@ mod laws;
 mod reading;
 mod signs;
 
-pub use laws::{no_fault_of_a_script, one_fault, one_script, print_is_read_back, what_is_read_is_writable};
+pub use laws::{
+    no_fault_of_a_script, one_fault, one_script, print_is_read_back, what_is_read_is_writable,
+};
 pub use pts_print::print;
 pub use reading::{SyntaxFault, SyntaxKind, parse};
