@@ -1,8 +1,6 @@
 -- Points whose cells are those of their arrays, and arrays whose cells have their kinds.
 use Rattle.std.specs.Prelude.{◌≡◌, All, ℕ, ◌<◌, None, Some, List, length, slice_get, pos, ◌≤ℤ◌, ◌<ℤ◌}
-use Rattle.pts_types.specs.Arithmetic.{kind_of}
-use Rattle.pts_types.specs.declared.value.Kind.{Kind}
-use Rattle.pts_types.specs.declared.value.Value.{Value}
+use Rattle.pts_types.specs.Arithmetic.{IsValueOf}
 use Rattle.pts_affine.specs.Lines.{cell, IsBounded}
 use Rattle.pts_points.specs.declared.point.PointInfo.{PointInfo}
 use Rattle.pts_program.specs.declared.info.ArrayInfo.{ArrayInfo}
@@ -16,9 +14,6 @@ pub record IsInRange (arrays : List ArrayInfo) (point : PointInfo) : Type 0 wher
   pub cells : (p : ℕ) → p < point.line.n → (pos 0 ≤ℤ cell point.line p) × (cell point.line p <ℤ pos (length_at arrays point.array))
   pub bounded : IsBounded point.line
 
-abbrev pub HasKind : Kind → Value → Type 0
-HasKind kind value = kind_of value ≡ kind
-
--- all cells of the array have its kind
+-- all cells of the array are values of its kind, in the range of the kind
 abbrev pub IsOfKind : ArrayInfo → Type 0
-IsOfKind a = All (HasKind a.kind) a.cells
+IsOfKind a = All (IsValueOf a.kind) a.cells

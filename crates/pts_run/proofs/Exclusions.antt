@@ -1,5 +1,5 @@
 -- No command takes bytes that it refuses, and it refuses bytes for one reason.
-use Rattle.std.proofs.Common.{◌≡◌, ◌≢◌, ◌<◌, ℕ, Some, List, length, refl, sym, ap, subst, ◌∙◌, arith}
+use Rattle.std.proofs.Common.{◌⊎◌, inl, inr, ◌≡◌, ◌≢◌, ◌<◌, ℕ, Some, List, length, refl, sym, ap, subst, ◌∙◌, arith}
 use Rattle.pts_tree.specs.declared.script.Script.{Script}
 use Rattle.pts_syntax.specs.declared.reading.SyntaxFault.{SyntaxFault}
 use Rattle.pts_syntax.proofs.OneFault.{same_script, no_fault_of_a_script, same_fault}
@@ -8,10 +8,12 @@ use Rattle.pts_program.proofs.FirstFaults.{fault-or_sound, fault-unique}
 use Rattle.pts_eval.specs.Works.{first_later}
 use Rattle.pts_run.specs.declared.refusal.Refusal.{Refusal}
 use Rattle.pts_run.specs.declared.refusal.Refusal.TheVariants as refusals
+use Rattle.pts_run.specs.declared.status.Status.{Status}
+use Rattle.pts_run.specs.declared.status.Status.TheVariants as status
 use Rattle.pts_run.specs.declared.words.Command.{Command}
 use Rattle.pts_run.specs.declared.words.Command.TheVariants as commands
 use Rattle.pts_run.specs.Acceptance.{IsAccepted, Rejects}
-use Rattle.pts_run.specs.Output.{Reads, Takes, Accepts, FailsBy, IsRejected, RejectsFor, Refuses}
+use Rattle.pts_run.specs.Output.{Reads, Takes, Accepts, FailsBy, IsAsScriptSays, IsDecided, IsRejected, RejectsFor, Refuses}
 
 -- ---- scripts and faults
 
@@ -98,3 +100,29 @@ one_by command bytes _ _ (rejected reason r) (rejected other t) =
 
 pub one_reason : (command : Command) (bytes : List ℕ) (reason other : Refusal) → Refuses command bytes reason → Refuses command bytes other → reason ≡ other
 one_reason command bytes reason other r s = one_by command bytes reason other (why command bytes reason r) (why command bytes other s)
+
+-- ---- what the bytes decide
+
+decides_taken : (command : Command) (bytes : List ℕ) (answer : Status) → IsAsScriptSays command bytes answer → Takes command bytes → (answer ≡ status.Done) ⊎ (answer ≡ status.NoMemory)
+decides_taken command bytes status.Done said takes = inl refl
+decides_taken command bytes status.NoMemory said takes = inr refl
+decides_taken command bytes status.Refused said takes = absurd (excludes command bytes said.0 takes said.1)
+decides_taken command bytes status.Usage said takes = absurd said
+decides_taken command bytes status.ReadFault said takes = absurd said
+decides_taken command bytes status.WriteFault said takes = absurd said
+
+decides_refused : (command : Command) (bytes : List ℕ) (answer : Status) (reason : Refusal) → IsAsScriptSays command bytes answer → Refuses command bytes reason
+    → (answer ≡ status.Refused) ⊎ (answer ≡ status.NoMemory)
+decides_refused command bytes status.Done reason said refuses = absurd (excludes command bytes reason said refuses)
+decides_refused command bytes status.NoMemory reason said refuses = inr refl
+decides_refused command bytes status.Refused reason said refuses = inl refl
+decides_refused command bytes status.Usage reason said refuses = absurd said
+decides_refused command bytes status.ReadFault reason said refuses = absurd said
+decides_refused command bytes status.WriteFault reason said refuses = absurd said
+
+pub decided : (command : Command) (bytes : List ℕ) (answer : Status) → IsAsScriptSays command bytes answer → IsDecided command bytes answer
+decided command bytes answer said = record {
+  said = said;
+  taken = decides_taken command bytes answer said;
+  refused = λ reason refuses. decides_refused command bytes answer reason said refuses;
+}

@@ -108,7 +108,7 @@ Wrote command bytes answer held new = (text : List ℕ) × IsOutput command byte
 abbrev pub WrotePart : Command → List ℕ → List ℕ → Option (List ℕ) → Type 0
 WrotePart command bytes held new = (text : List ℕ) × IsPartialOutput command bytes text × (new ≡ Some (held ++ text))
 
--- what a script says the answer is, where nothing fails outside
+-- what an answer says of the bytes, where nothing fails outside
 abbrev pub IsAsScriptSays : Command → List ℕ → Status → Type 0
 IsAsScriptSays command bytes status.Done = Takes command bytes
 IsAsScriptSays command bytes status.Refused = (reason : Refusal) × Refuses command bytes reason
@@ -116,3 +116,9 @@ IsAsScriptSays command bytes status.NoMemory = Unit {0}
 IsAsScriptSays command bytes status.Usage = ⊥
 IsAsScriptSays command bytes status.ReadFault = ⊥
 IsAsScriptSays command bytes status.WriteFault = ⊥
+
+-- where nothing fails outside the bytes decide, but for want of memory
+pub record IsDecided (command : Command) (bytes : List ℕ) (answer : Status) : Type 0 where
+  pub said : IsAsScriptSays command bytes answer
+  pub taken : Takes command bytes → (answer ≡ status.Done) ⊎ (answer ≡ status.NoMemory)
+  pub refused : (reason : Refusal) → Refuses command bytes reason → (answer ≡ status.Refused) ⊎ (answer ≡ status.NoMemory)

@@ -4,12 +4,12 @@
 mod lists;
 mod points;
 
+use crate::script::read_script;
 use crate::{Command, Status, read_words, run_words};
 use pts_boards::Pool;
 use pts_eval::eval_fn;
 use pts_io::{MemorySink, MemorySource};
 use pts_program::{Program, build};
-use pts_syntax::parse;
 use pts_types::{Thrown, Value};
 use std::alloc::{AllocError, Global};
 use std::test::Fail;
@@ -47,12 +47,14 @@ fn call(
 // The program of a script with these items behind those of the front.
 fn built(alloc: Global, front: &str, items: &str) -> Result<Program, Fail> {
     let text = format!(in alloc; "pts 1; {front}{items}")?;
-    let script = parse(alloc, text.as_bytes()).ok().ok_or("no script")?;
-    if script.items.len() > 100 {
-        return Err(Fail::from("too many items"));
-    }
-    let program = build(alloc, &script).ok().ok_or("no program")?;
+    let program = program_of(alloc, text.as_bytes()).ok_or("no program")?;
     Ok(program)
+}
+
+fn program_of(alloc: Global, text: &[u8]) -> Option<Program> {
+    let mut source = MemorySource::new(text.to_vec(alloc).ok()?, Vec::new(alloc));
+    let script = read_script(alloc, &mut source).ok()?;
+    build(alloc, &script).ok()
 }
 
 // The first of the command lines that is read as another.
@@ -185,11 +187,7 @@ fn checks_and_prints(rt: HostRuntime) -> Result<(), Fail> {
 
 // The value of `f(x, y)`, where the script declares f alone.
 fn value_of(alloc: Global, text: &[u8], x: i64, y: i64) -> Option<Result<Value, Thrown>> {
-    let script = parse(alloc, text).ok()?;
-    if script.items.len() > 1 {
-        return None;
-    }
-    let program = build(alloc, &script).ok()?;
+    let program = program_of(alloc, text)?;
     if program.functions().is_empty() {
         return None;
     }

@@ -3,7 +3,7 @@
 ghost use Rattle.std.specs.Prelude.{◌≡◌, ◌≢◌, ℕ, ◌<◌, ◌≤◌, ◌↔◌, List, length, map, Some, string_bytes};
 ghost use Rattle.std.specs.Io.KnownBytes.{IsAtEnd};
 ghost use Rattle.pts_io.specs.Streams.{HasRisen};
-ghost use Rattle.pts_run.specs.Output.{IsAsScriptSays, Wrote, WrotePart, script_limit};
+ghost use Rattle.pts_run.specs.Output.{IsDecided, Wrote, WrotePart, script_limit};
 ghost use Rattle.pts_run.specs.Words.{IsCommand};
 ghost use Rattle.pts_run.specs.Writing as spec;
 
@@ -53,10 +53,10 @@ pub fn run_words<S: Source, K: Sink>(
     ensures refused_at_the_end { (bytes : List ℕ) → S.left source.old ≡ Some bytes → length bytes ≤ script_limit
         → result ≡ Status.Refused → IsAtEnd (S.left source.new) }
 
-    // Where nothing fails outside, the script decides.
+    // Where nothing fails outside, the bytes decide between Done and Refused, and no other answer comes but want of memory.
     ensures complete { (command : Command) (bytes : List ℕ) → IsCommand (map string_bytes words.now) command → S.left source.old ≡ Some bytes
         → ¬ HasRisen (S.Source.faults source.old) (S.Source.faults source.new) → ¬ HasRisen (K.Sink.faults sink.old) (K.Sink.faults sink.new)
-        → IsAsScriptSays command bytes result }
+        → IsDecided command bytes result }
     ensures counts { (S.Source.faults source.old ≤ S.Source.faults source.new) × (K.Sink.faults sink.old ≤ K.Sink.faults sink.new) }
 {
     let Some(command) = read_words(words) else {

@@ -1,6 +1,9 @@
 use Rattle.std.proofs.Common.{ℕ, List, refl, sym, ◌∙◌}
 use Rattle.pts_run.specs.Output.{Reads, Refuses}
 use Rattle.pts_run.proofs.Endings.{known, for_same, wrote, wrote_done, wrote_refused, wrote_part, as_said, done, faulty, no_read_fault, no_usage, not_too_long}
+use Rattle.pts_run.specs.declared.status.Status.TheVariants as status
+use Rattle.pts_run.specs.Writing.{status_of}
+use Rattle.pts_run.proofs.Exclusions.{decided}
 use Rattle.pts_run.proofs.top.run_words.Goals as goal
 
 -- ---- a script
@@ -49,7 +52,7 @@ pub returns-in-Ok-clause-complete : goal.returns-in-Ok-clause-complete
 returns-in-Ok-clause-complete g c = λ command bytes is left calm_source calm_sink.
     let reads = known _ bytes (λ (bs : List ℕ). Reads bs c.in-Ok.script) left c.in-Ok.ensures.reads in
     let ends = for_same c.in-Some.command command bytes c.answer.result _ _ ((c.in-Some.ensures command).1 is) (c.answer.ensures.ends bytes reads) in
-    rw c.status_of.ensures (as_said command bytes c.answer.result _ _ ends calm_sink c.answer.ensures.counted.fault)
+    rw c.status_of.ensures (decided command bytes (status_of c.answer.result) (as_said command bytes c.answer.result _ _ ends calm_sink c.answer.ensures.counted.fault))
 
 -- ---- a refusal
 
@@ -102,7 +105,8 @@ pub returns-in-Err-Refused-clause-complete : goal.returns-in-Err-Refused-clause-
 returns-in-Err-Refused-clause-complete g c = λ command bytes is left calm_source calm_sink.
     let refuses = known _ bytes (λ (bs : List ℕ). Refuses command bs c.in-Err-Refused.refusal) left (c.read_script.ensures.refuses command _ (rw c.in-Err-Refused.field-0-is at c.in-Err-Refused.is)) in
     rw c.status_of-in-Err-Refused.ensures
-    (as_said command bytes c.refuse.result _ _ (c.refuse.ensures.ends command bytes (rw c.in-Err-Refused.refusal-is refuses)) calm_sink c.refuse.ensures.counted.fault)
+    (decided command bytes (status_of c.refuse.result)
+    (as_said command bytes c.refuse.result _ _ (c.refuse.ensures.ends command bytes (rw c.in-Err-Refused.refusal-is refuses)) calm_sink c.refuse.ensures.counted.fault))
 
 -- ---- no script
 
@@ -111,3 +115,6 @@ returns-in-Err-Source-clause-usage g c = (λ e. absurd (cc), λ none. absurd (no
 
 pub returns-in-Err-NoMemory-clause-usage : goal.returns-in-Err-NoMemory-clause-usage
 returns-in-Err-NoMemory-clause-usage g c = (λ e. absurd (cc), λ none. absurd (none c.in-Some.command ((c.in-Some.ensures c.in-Some.command).0 refl)))
+
+pub returns-in-Err-NoMemory-clause-complete : goal.returns-in-Err-NoMemory-clause-complete
+returns-in-Err-NoMemory-clause-complete g c = λ command bytes is left calm_source calm_sink. decided command bytes status.NoMemory tt
