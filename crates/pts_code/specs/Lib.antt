@@ -1,5 +1,6 @@
 pub mod Codes
 pub mod Compiling
 pub mod Functions
+pub mod Laws
 pub mod Outcomes
 pub mod Values

@@ -3,12 +3,19 @@
 
 mod code;
 mod codes;
-mod compile;
+mod compiling;
 mod evaluation;
 mod function;
-#[cfg(test)]
-mod tests;
+mod laws;
+mod numbers;
 mod values;
 
+pub use code::{Code, Step};
 pub use codes::Codes;
+pub use compiling::{Names, Spot, compile};
+pub use evaluation::{Frame, eval};
 pub use function::FunctionInfo;
+pub use laws::{
+    elements_are_points, outer_elements_are_listed, values_depend_on_their_own_elements,
+};
+pub use numbers::numbers_in;

@@ -3,7 +3,7 @@ use Rattle.std.specs.Option.{option_or}
 use Rattle.pts_tree.specs.declared.expr.ChainPart.{ChainPart}
 use Rattle.pts_rules.specs.Kinds.{Typing, typing, first_kind}
 use Rattle.pts_code.proofs.Steps.{next_of}
-use Rattle.pts_code.proofs.compile.«+own_kind».Goals as goal
+use Rattle.pts_code.proofs.compiling.«+own_kind».Goals as goal
 
 pub first_kind-returns-in-Some : goal.first_kind-returns-in-Some
 first_kind-returns-in-Some t c =
