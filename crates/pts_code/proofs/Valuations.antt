@@ -84,3 +84,5 @@ valued-Any env rs xs = at-Any Valuation Part (valuation_step env rs) (λ part. (
 pub valued-If : (env : Environment) (rs : Reads) (x : Expr) (y : Expr) (z : Expr) → valuation env rs (e.If x y z) ≡ valuation_step env rs (Expr-F.If (valuation env rs x) (valuation env rs y) (valuation env rs z))
 unfolding valuation
 valued-If env rs x y z = at-If Valuation Part (valuation_step env rs) (λ part. (part.op, part.operand)) x y z
+
+pub ruleset valued_by_form = (valued-Number, valued-True, valued-False, valued-Name, valued-Call, valued-Element, valued-Convert, valued-Throw, valued-Paren, valued-Minus, valued-Not, valued-Chain, valued-Compare, valued-All, valued-Any, valued-If)

@@ -1,6 +1,6 @@
 //! Functions in order, ready to be called.
 
-ghost use Rattle.std.specs.Prelude.{◌≡◌, ◌<◌, ◌≤◌, [], ◌∷◌, ◌++◌, IfOk, OnOk, length, map};
+ghost use Rattle.std.specs.Prelude.{◌≡◌, ◌<◌, ◌≤◌, [], ◌∷◌, ◌++◌, IfOk, OnOk, Some, length, map, slice_get};
 ghost use Rattle.pts_code.specs.Codes.{functions_of};
 ghost use Rattle.pts_code.specs.Compiling.{IsCode, IsCompiled};
 ghost use Rattle.pts_code.specs.Functions.{body_scope, gives_of, kinds_of, outcome_of, with_signature};
@@ -138,6 +138,15 @@ impl Codes {
         ensures { functions_of result.now ≡ gives_of self.now }
     {
         self.codes.as_slice()
+    }
+
+    /// The function of a number, from 0.
+    pub fn function(&self, number: usize) -> &FunctionInfo
+        requires { number < length self.now }
+        ensures is { Some result.now ≡ slice_get self.now number }
+        ensures few { length result.now.params ≤ 8 }
+    {
+        &self.functions[number]
     }
 
     /// One function more, behind those that it may call. It has at most eight parameters.

@@ -19,3 +19,6 @@ pub use laws::{
     elements_are_points, outer_elements_are_listed, values_depend_on_their_own_elements,
 };
 pub use numbers::numbers_in;
+pub use values::{
+    inverted, is_true, literal_value, negated, number_value, operated, opposite, throw_code,
+};
