@@ -5,11 +5,15 @@ pub mod Counted
 pub mod ExprWeights
 pub mod Forms
 pub mod Given
+pub mod GrammarOperators
 pub mod Induction
+pub mod KindsGiven
 pub mod Lists
 pub mod Lookups
 pub mod NumberForms
 pub mod Numbering
+pub mod OperationKinds
+pub mod Operators
 pub mod OwnReads
 pub mod SameKinds
 pub mod Scopes
@@ -17,5 +21,6 @@ pub mod Small
 pub mod Steps
 pub mod Sums
 pub mod Truths
+pub mod TypedFunctions
 pub mod Valuations
 pub mod Weights

@@ -3,4 +3,5 @@ pub mod Compiling
 pub mod Functions
 pub mod Laws
 pub mod Outcomes
+pub mod Soundness
 pub mod Values

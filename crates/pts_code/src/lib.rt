@@ -16,7 +16,9 @@ pub use compiling::{Names, Spot, compile};
 pub use evaluation::{Frame, eval};
 pub use function::FunctionInfo;
 pub use laws::{
-    elements_are_points, outer_elements_are_listed, values_depend_on_their_own_elements,
+    elements_are_points, expressions_give_their_kinds, functions_give_their_kinds,
+    grammar_has_operators_right, names_of_functions_have_their_kinds, outer_elements_are_listed,
+    values_depend_on_their_own_elements,
 };
 pub use numbers::numbers_in;
 pub use values::{
