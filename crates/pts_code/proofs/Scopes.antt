@@ -12,6 +12,7 @@ use Rattle.pts_rules.specs.Parts.{Name}
 use Rattle.pts_rules.specs.Scopes.{param_entry}
 use Rattle.pts_code.specs.declared.code.Code.{Code}
 use Rattle.pts_code.specs.declared.function.FunctionInfo.{FunctionInfo}
+use Rattle.pts_code.specs.declared.compiling.Spot.{Spot}
 use Rattle.pts_code.specs.Codes.{Sight, body_sight, gives, local, functions_of, with_code}
 use Rattle.pts_code.specs.Compiling.{Holds, IsCode, IsCompiled, has_few, is_local, is_function, locals, functions, scope_of_names}
 use Rattle.pts_code.specs.Functions.{first_value, with_params, function_value, with_function, environment_of, outcome_of, gives_after, gives_of, with_signature, scope_of, body_scope}
@@ -85,22 +86,22 @@ functions_one : (f : FunctionInfo) (env : Environment) → functions (with_funct
 functions_one f env = count_cons (λ (entry : Name × Bound). is_function entry.1) (f.name, Function (function_value env f)) env
 
 -- functions that stand behind others at their numbers
-holds_after : (sight : Sight) (fs : List FunctionInfo) (before : List Gives) (env : Environment)
-    → sight.functions ≡ before ++ gives_after env fs → length before ≡ functions env → IsTrue (list_all has_few fs) → Holds sight [] env → Holds sight [] (fold with_function env fs)
-holds_after sight [] before env is count few h = h
-holds_after sight (f ∷ fs) before env is count few h =
+holds_after : (sight : Sight) (spots : List Spot) (fs : List FunctionInfo) (before : List Gives) (env : Environment)
+    → sight.functions ≡ before ++ gives_after env fs → length before ≡ functions env → IsTrue (list_all has_few fs) → Holds sight spots env → Holds sight spots (fold with_function env fs)
+holds_after sight spots [] before env is count few h = h
+holds_after sight spots (f ∷ fs) before env is count few h =
     let g = (function_value env f).gives in
     let rest = gives_after (with_function env f) fs in
     let again : sight.functions ≡ (before ++ g ∷ []) ++ rest = is ∙ sym (append_assoc before (g ∷ []) rest) in
     let found : slice_get sight.functions (functions env) ≡ Some g =
     ap (λ xs. slice_get xs (functions env)) again ∙ get_kept (before ++ g ∷ []) rest (functions env) g (ap (slice_get (before ++ g ∷ [])) (sym count) ∙ get_push before g) in
     let more : length (before ++ g ∷ []) ≡ functions (with_function env f) = omega (arith, length_push before g, count, functions_one f env) in
-    holds_after sight fs (before ++ g ∷ []) (with_function env f) again more (and_right (has_few f) (list_all has_few fs) few)
+    holds_after sight spots fs (before ++ g ∷ []) (with_function env f) again more (and_right (has_few f) (list_all has_few fs) few)
     (found, omega (arith, leb-true (length f.params) 8 (and_left (has_few f) (list_all has_few fs) few), length-map f.params (λ p. p.kind)), h)
 
 -- the functions stand at their numbers
-pub holds_functions : (sight : Sight) (fs : List FunctionInfo) → sight.functions ≡ gives_of fs → IsTrue (list_all has_few fs) → Holds sight [] (environment_of fs)
-holds_functions sight fs is few = holds_after sight fs [] [] is refl few tt
+pub holds_functions : (sight : Sight) (spots : List Spot) (fs : List FunctionInfo) → sight.functions ≡ gives_of fs → IsTrue (list_all has_few fs) → Holds sight spots (environment_of fs)
+holds_functions sight spots fs is few = holds_after sight spots fs [] [] is refl few tt
 
 -- ---- one function more
 
@@ -130,7 +131,7 @@ body_same fs codes scope f code c is =
     λ i values.
     is.means (with_params (environment_of fs) f.params values) (body_sight (functions_of codes) values)
     (ap (λ s. body_scope s f.params) (c.named ∙ scope_of_functions fs) ∙ scope_of_params (environment_of fs) f.params values)
-    (holds_params (body_sight (functions_of codes) values) (environment_of fs) f.params values (no_locals fs values) (holds_functions (body_sight (functions_of codes) values) fs c.same c.few))
+    (holds_params (body_sight (functions_of codes) values) (environment_of fs) f.params values (no_locals fs values) (holds_functions (body_sight (functions_of codes) values) [] fs c.same c.few))
     i
 
 pub compiled_push : (fs : List FunctionInfo) (codes : List Code) (scope : Scope) (f : FunctionInfo) (code : Code)

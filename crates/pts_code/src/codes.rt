@@ -1,9 +1,10 @@
 //! Functions in order, ready to be called.
 
-ghost use Rattle.std.specs.Prelude.{◌≡◌, ◌<◌, ◌≤◌, [], ◌∷◌, ◌++◌, IfOk, OnOk, Some, length, map, slice_get};
-ghost use Rattle.pts_code.specs.Codes.{functions_of};
-ghost use Rattle.pts_code.specs.Compiling.{IsCode, IsCompiled};
-ghost use Rattle.pts_code.specs.Functions.{body_scope, gives_of, kinds_of, outcome_of, with_signature};
+ghost use Rattle.std.specs.Prelude.{◌≡◌, ◌<◌, ◌≤◌, [], ◌∷◌, ◌++◌, IfOk, List, OnOk, Some, fold, length, map, slice_get};
+ghost use Rattle.pts_code.specs.Codes.{Sight, functions_of};
+ghost use Rattle.pts_code.specs.Compiling.{Holds, IsCode, IsCompiled};
+ghost use Rattle.pts_code.specs.declared.compiling.Spot.{Spot};
+ghost use Rattle.pts_code.specs.Functions.{body_scope, environment_of, kinds_of, outcome_of, with_signature};
 
 use crate::code::Code;
 use crate::compiling::{Names, compile};
@@ -81,6 +82,20 @@ pub(crate) fn enter_function(
     scope.enter(alloc, &function.name, Meaning::Function(signature))
 }
 
+/// Enters functions, the latest first in the scope, for code that may call them.
+pub fn enter_functions(
+    alloc: Global,
+    scope: &mut Scope,
+    functions: &[FunctionInfo],
+) -> Result<(), NoMemory>
+    ensures { OnOk result (scope.new ≡ fold with_signature scope.old functions.now) }
+{
+    for function in functions {
+        enter_function(alloc, scope, function)?;
+    }
+    Ok(())
+}
+
 // The arguments stand in the frame in order. No memory holds a body with more elements than there are numbers.
 fn compile_body(alloc: Global, scope: &mut Scope, function: &FunctionInfo) -> Result<Code, NoMemory>
     ensures code { IfOk result (λ code. IsCode (body_scope scope.old function.now.params) [] function.now.kind 0 function.now.body code) }
@@ -133,9 +148,9 @@ impl Codes {
         self.functions.as_slice()
     }
 
-    /// What computes the functions, by their numbers.
+    /// What computes the functions, by their numbers: wherever code may call these, each function stands at its number.
     pub fn codes(&self) -> &[Code]
-        ensures { functions_of result.now ≡ gives_of self.now }
+        ensures { (sight : Sight) (spots : List Spot) → sight.functions ≡ functions_of result.now → Holds sight spots (environment_of self.now) }
     {
         self.codes.as_slice()
     }

@@ -8,10 +8,12 @@ mod evaluation;
 mod function;
 mod laws;
 mod numbers;
+#[cfg(test)]
+mod tests;
 mod values;
 
 pub use code::{Code, Step};
-pub use codes::Codes;
+pub use codes::{Codes, enter_functions};
 pub use compiling::{Names, Spot, compile};
 pub use evaluation::{Frame, eval};
 pub use function::FunctionInfo;
