@@ -29,6 +29,7 @@ fn local(values: &[Value], place: usize) -> Result<Value, Thrown>
     }
 }
 
+#[inline(never)]
 fn noted(notes: &[Option<Result<Value, Thrown>>], place: usize) -> Result<Value, Thrown>
     ensures { result ≡ valued.note notes.now place }
 {

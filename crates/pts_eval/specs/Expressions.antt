@@ -1,5 +1,5 @@
 -- The value of an expression of a program, where its local names and its elements have these values.
-use Rattle.std.specs.Prelude.{◌+◌, ℕ, false, [], ◌∷◌, option_map, Option, Some, None, Ok, List, ◌++◌, map, take, slice_get}
+use Rattle.std.specs.Prelude.{◌≡◌, ◌+◌, ℕ, true, false, length, [], ◌∷◌, option_map, Option, Some, None, Ok, List, ◌++◌, map, take, slice_get}
 use Rattle.pts_types.specs.Arithmetic.{kind_of}
 use Rattle.pts_types.specs.declared.operation.ScalarOp.{ScalarOp}
 use Rattle.pts_types.specs.declared.value.Kind.{Kind}
@@ -10,6 +10,7 @@ use Rattle.pts_tree.specs.declared.expr.Expr.{Expr}
 use Rattle.pts_code.specs.declared.function.FunctionInfo.{FunctionInfo}
 use Rattle.pts_code.specs.Functions.{environment_of, function_value}
 use Rattle.pts_code.specs.Outcomes.{Outcome, choice, from_left}
+use Rattle.pts_code.specs.Soundness.{HasKind}
 use Rattle.pts_code.specs.Values.{Bound, Array, Function, Environment, Part, Valuation, listed, numbers, sides_kind, valuation}
 use Rattle.pts_code.specs.Values as values
 use Rattle.pts_program.specs.declared.info.ArrayInfo.{ArrayInfo}
@@ -36,6 +37,13 @@ array_names arrays = map (λ array. (array.name, Array array.kind)) arrays
 -- these local values, and the arrays and functions of a program
 abbrev pub environment : Lists → List Local → Environment
 environment program locals = local_names locals ++ (array_names program.arrays ++ environment_of program.functions)
+
+-- The condition of an evaluation: the names of the expression are resolved, `kind` is its kind, the local values have the
+-- kinds of their names, as the functions of the program have theirs, and `reads` holds one entry for each element that stands
+-- in no index, in text order and of the element's kind.
+pub record IsEvaluable (program : Lists) (locals : List Local) (reads : List Outcome) (kind : Kind) (x : Expr) : Type 0 where
+  pub expression : HasKind true (environment program locals) (listed reads) kind 0 x
+  pub entries : length reads ≡ numbers false x
 
 -- ---- what the evaluation goes by
 

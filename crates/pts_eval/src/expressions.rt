@@ -468,9 +468,9 @@ fn eval(names: &Names<'_>, kind: Kind, first: usize, expr: &Expr) -> Result<Valu
 /// `reads` what its elements gave when they were read, those that stand in no index, in text order. A fault among these is
 /// thrown where its element is taken, and nowhere else. It takes no memory.
 ///
-/// The names are resolved, `kind` is the kind of the expression, each of its local names is in `locals` with a value of the
-/// name's kind, and each entry of `reads` is of the kind of its element. Of this only the number of entries is asked for: the
-/// value is that of the definition in every other case as well.
+/// It is meant for expressions whose names are resolved, at their kinds, with a value of its kind for each local name, and
+/// with entries of the kinds of their elements. Of this only that there are enough entries is asked for: the value is that of
+/// the definition in every other case as well. Where all of it holds, the value is of the kind.
 pub fn eval_expr(
     program: &Program,
     kind: Kind,
@@ -479,7 +479,8 @@ pub fn eval_expr(
     reads: &[Result<Value, Thrown>],
 ) -> Result<Value, Thrown>
     requires { numbers false expr.now ≤ length reads.now }
-    ensures { result ≡ valued.value_of (spec.environment program.now locals.now) (valued.listed reads.now) kind 0 expr.now }
+    ensures value { result ≡ valued.value_of (spec.environment program.now locals.now) (valued.listed reads.now) kind 0 expr.now }
+    ensures kind { spec.IsEvaluable program.now locals.now reads.now kind expr.now → arithmetic.GivesKind kind result }
 {
     let names = Names {
         program,

@@ -1,4 +1,4 @@
-use Rattle.std.proofs.Common.{◌≡◌, ap, ◌∙◌, subst}
+use Rattle.std.proofs.Common.{ap, ◌∙◌, subst}
 use Rattle.pts_code.specs.Codes.{functions_of}
 use Rattle.pts_code.specs.Compiling.{Holds}
 use Rattle.pts_code.specs.Functions.{environment_of}
