@@ -7,13 +7,13 @@ use Rattle.pts_types.specs.declared.value.Value.{Value}
 use Rattle.std.specs.Prelude.{slice_get}
 use Rattle.std.proofs.lemmas.Option.{slice_get_past}
 use Rattle.pts_code.specs.declared.code.Code.{Code}
-use Rattle.pts_code.specs.Codes.{gives, call_of, functions_of}
+use Rattle.pts_code.specs.Codes.{body_sight, gives, call_of, functions_of}
 use Rattle.pts_code.specs.Outcomes.{Outcome, Gives, and_then, in_order, never}
 use Rattle.pts_code.proofs.Numbering.{grown_length, grown_at}
 
 -- a function as its code gives it, where it may call these
 abbrev pub given_by : List Gives → Code → Gives
-given_by functions code = λ values. gives functions values code
+given_by functions code = λ values. gives (body_sight functions values) code
 
 pub functions_length : (codes : List Code) → length (functions_of codes) ≡ length codes
 functions_length codes = omega (arith, grown_length given_by codes [])

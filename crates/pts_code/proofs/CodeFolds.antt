@@ -22,6 +22,9 @@ module _ (A B : Type 0) (step : Code-F A B → A) (part_step : Step-F A B → B)
   pub at-Local : (place : ℕ) → value_at (c.Local place) ≡ step (Code-F.Local place)
   at-Local place = ap value_at (sym (c.rolls-Local place)) ∙ fold-roll-Code A B step part_step (Code-F.Local place)
 
+  pub at-Note : (place : ℕ) → value_at (c.Note place) ≡ step (Code-F.Note place)
+  at-Note place = ap value_at (sym (c.rolls-Note place)) ∙ fold-roll-Code A B step part_step (Code-F.Note place)
+
   pub at-Throw : (number : ℕ) → value_at (c.Throw number) ≡ step (Code-F.Throw number)
   at-Throw number = ap value_at (sym (c.rolls-Throw number)) ∙ fold-roll-Code A B step part_step (Code-F.Throw number)
 

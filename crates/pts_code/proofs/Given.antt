@@ -6,56 +6,60 @@ use Rattle.pts_code.specs.declared.code.Code.{Code}
 use Rattle.pts_code.specs.declared.code.Code.TheOpen.{Code-F}
 use Rattle.pts_code.specs.declared.code.Code.TheVariants as c
 use Rattle.pts_code.specs.declared.code.Step.{Step}
-use Rattle.pts_code.specs.Codes.{gives, gives_step}
-use Rattle.pts_code.specs.Outcomes.{Outcome, Gives, Operation}
-use Rattle.pts_code.proofs.CodeFolds.{at-Value, at-Local, at-Throw, at-Call, at-Convert, at-Negate, at-Not, at-steps, at-All, at-Any, at-If}
+use Rattle.pts_code.specs.Codes.{Sight, gives, gives_step}
+use Rattle.pts_code.specs.Outcomes.{Outcome, Operation}
+use Rattle.pts_code.proofs.CodeFolds.{at-Value, at-Local, at-Note, at-Throw, at-Call, at-Convert, at-Negate, at-Not, at-steps, at-All, at-Any, at-If}
 
 -- an operation of a chain and what its operand gives
-abbrev pub operation : List Gives → List Value → Step → Operation
-operation functions frame x = (x.op, gives functions frame x.operand)
+abbrev pub operation : Sight → Step → Operation
+operation sight x = (x.op, gives sight x.operand)
 
-pub gives-Value : (functions : List Gives) (frame : List Value) (value : Value) → gives functions frame (c.Value value) ≡ gives_step functions frame (Code-F.Value value)
+pub gives-Value : (sight : Sight) (value : Value) → gives sight (c.Value value) ≡ gives_step sight (Code-F.Value value)
 unfolding gives
-gives-Value functions frame value = at-Value Outcome Operation (gives_step functions frame) (λ step. (step.op, step.operand)) value
+gives-Value sight value = at-Value Outcome Operation (gives_step sight) (λ step. (step.op, step.operand)) value
 
-pub gives-Local : (functions : List Gives) (frame : List Value) (place : ℕ) → gives functions frame (c.Local place) ≡ gives_step functions frame (Code-F.Local place)
+pub gives-Local : (sight : Sight) (place : ℕ) → gives sight (c.Local place) ≡ gives_step sight (Code-F.Local place)
 unfolding gives
-gives-Local functions frame place = at-Local Outcome Operation (gives_step functions frame) (λ step. (step.op, step.operand)) place
+gives-Local sight place = at-Local Outcome Operation (gives_step sight) (λ step. (step.op, step.operand)) place
 
-pub gives-Throw : (functions : List Gives) (frame : List Value) (number : ℕ) → gives functions frame (c.Throw number) ≡ gives_step functions frame (Code-F.Throw number)
+pub gives-Note : (sight : Sight) (place : ℕ) → gives sight (c.Note place) ≡ gives_step sight (Code-F.Note place)
 unfolding gives
-gives-Throw functions frame number = at-Throw Outcome Operation (gives_step functions frame) (λ step. (step.op, step.operand)) number
+gives-Note sight place = at-Note Outcome Operation (gives_step sight) (λ step. (step.op, step.operand)) place
 
-pub gives-Call : (functions : List Gives) (frame : List Value) (number : ℕ) (xs : List Code) → gives functions frame (c.Call number xs) ≡ gives_step functions frame (Code-F.Call number (map (gives functions frame) xs))
+pub gives-Throw : (sight : Sight) (number : ℕ) → gives sight (c.Throw number) ≡ gives_step sight (Code-F.Throw number)
 unfolding gives
-gives-Call functions frame number xs = at-Call Outcome Operation (gives_step functions frame) (λ step. (step.op, step.operand)) number xs
+gives-Throw sight number = at-Throw Outcome Operation (gives_step sight) (λ step. (step.op, step.operand)) number
 
-pub gives-Convert : (functions : List Gives) (frame : List Value) (to : Kind) (x : Code) → gives functions frame (c.Convert to x) ≡ gives_step functions frame (Code-F.Convert to (gives functions frame x))
+pub gives-Call : (sight : Sight) (number : ℕ) (xs : List Code) → gives sight (c.Call number xs) ≡ gives_step sight (Code-F.Call number (map (gives sight) xs))
 unfolding gives
-gives-Convert functions frame to x = at-Convert Outcome Operation (gives_step functions frame) (λ step. (step.op, step.operand)) to x
+gives-Call sight number xs = at-Call Outcome Operation (gives_step sight) (λ step. (step.op, step.operand)) number xs
 
-pub gives-Negate : (functions : List Gives) (frame : List Value) (x : Code) → gives functions frame (c.Negate x) ≡ gives_step functions frame (Code-F.Negate (gives functions frame x))
+pub gives-Convert : (sight : Sight) (to : Kind) (x : Code) → gives sight (c.Convert to x) ≡ gives_step sight (Code-F.Convert to (gives sight x))
 unfolding gives
-gives-Negate functions frame x = at-Negate Outcome Operation (gives_step functions frame) (λ step. (step.op, step.operand)) x
+gives-Convert sight to x = at-Convert Outcome Operation (gives_step sight) (λ step. (step.op, step.operand)) to x
 
-pub gives-Not : (functions : List Gives) (frame : List Value) (x : Code) → gives functions frame (c.Not x) ≡ gives_step functions frame (Code-F.Not (gives functions frame x))
+pub gives-Negate : (sight : Sight) (x : Code) → gives sight (c.Negate x) ≡ gives_step sight (Code-F.Negate (gives sight x))
 unfolding gives
-gives-Not functions frame x = at-Not Outcome Operation (gives_step functions frame) (λ step. (step.op, step.operand)) x
+gives-Negate sight x = at-Negate Outcome Operation (gives_step sight) (λ step. (step.op, step.operand)) x
 
-pub gives-Chain : (functions : List Gives) (frame : List Value) (x : Code) (xs : List Step) → gives functions frame (c.Chain x xs) ≡ gives_step functions frame (Code-F.Chain (gives functions frame x) (map (operation functions frame) xs))
+pub gives-Not : (sight : Sight) (x : Code) → gives sight (c.Not x) ≡ gives_step sight (Code-F.Not (gives sight x))
 unfolding gives
-gives-Chain functions frame x xs = at-steps Outcome Operation (gives_step functions frame) (λ step. (step.op, step.operand)) x xs
+gives-Not sight x = at-Not Outcome Operation (gives_step sight) (λ step. (step.op, step.operand)) x
 
-pub gives-All : (functions : List Gives) (frame : List Value) (xs : List Code) → gives functions frame (c.All xs) ≡ gives_step functions frame (Code-F.All (map (gives functions frame) xs))
+pub gives-Chain : (sight : Sight) (x : Code) (xs : List Step) → gives sight (c.Chain x xs) ≡ gives_step sight (Code-F.Chain (gives sight x) (map (operation sight) xs))
 unfolding gives
-gives-All functions frame xs = at-All Outcome Operation (gives_step functions frame) (λ step. (step.op, step.operand)) xs
+gives-Chain sight x xs = at-steps Outcome Operation (gives_step sight) (λ step. (step.op, step.operand)) x xs
 
-pub gives-Any : (functions : List Gives) (frame : List Value) (xs : List Code) → gives functions frame (c.Any xs) ≡ gives_step functions frame (Code-F.Any (map (gives functions frame) xs))
+pub gives-All : (sight : Sight) (xs : List Code) → gives sight (c.All xs) ≡ gives_step sight (Code-F.All (map (gives sight) xs))
 unfolding gives
-gives-Any functions frame xs = at-Any Outcome Operation (gives_step functions frame) (λ step. (step.op, step.operand)) xs
+gives-All sight xs = at-All Outcome Operation (gives_step sight) (λ step. (step.op, step.operand)) xs
 
-pub gives-If : (functions : List Gives) (frame : List Value) (x : Code) (y : Code) (z : Code) → gives functions frame (c.If x y z) ≡ gives_step functions frame (Code-F.If (gives functions frame x) (gives functions frame y) (gives functions frame z))
+pub gives-Any : (sight : Sight) (xs : List Code) → gives sight (c.Any xs) ≡ gives_step sight (Code-F.Any (map (gives sight) xs))
 unfolding gives
-gives-If functions frame x y z = at-If Outcome Operation (gives_step functions frame) (λ step. (step.op, step.operand)) x y z
+gives-Any sight xs = at-Any Outcome Operation (gives_step sight) (λ step. (step.op, step.operand)) xs
 
-pub ruleset gives_by_form = (gives-Value, gives-Local, gives-Throw, gives-Call, gives-Convert, gives-Negate, gives-Not, gives-Chain, gives-All, gives-Any, gives-If)
+pub gives-If : (sight : Sight) (x : Code) (y : Code) (z : Code) → gives sight (c.If x y z) ≡ gives_step sight (Code-F.If (gives sight x) (gives sight y) (gives sight z))
+unfolding gives
+gives-If sight x y z = at-If Outcome Operation (gives_step sight) (λ step. (step.op, step.operand)) x y z
+
+pub ruleset gives_by_form = (gives-Value, gives-Local, gives-Note, gives-Throw, gives-Call, gives-Convert, gives-Negate, gives-Not, gives-Chain, gives-All, gives-Any, gives-If)

@@ -12,7 +12,8 @@ use Rattle.pts_rules.specs.Parts.{Name}
 use Rattle.pts_rules.specs.Scopes.{param_entry}
 use Rattle.pts_code.specs.declared.code.Code.{Code}
 use Rattle.pts_code.specs.declared.function.FunctionInfo.{FunctionInfo}
-use Rattle.pts_code.specs.Codes.{gives, local, functions_of, with_code}
+use Rattle.pts_code.specs.declared.compiling.Spot.{Spot}
+use Rattle.pts_code.specs.Codes.{Sight, body_sight, gives, local, functions_of, with_code}
 use Rattle.pts_code.specs.Compiling.{Holds, IsCode, IsCompiled, has_few, is_local, is_function, locals, functions, scope_of_names}
 use Rattle.pts_code.specs.Functions.{first_value, with_params, function_value, with_function, environment_of, outcome_of, gives_after, gives_of, with_signature, scope_of, body_scope}
 use Rattle.pts_code.specs.Outcomes.{Gives, never}
@@ -43,7 +44,7 @@ left_again scope ps =
 
 pub scope_of_params : (env : Environment) (ps : List Param) (vs : List Value) → body_scope (scope_of_names env) ps ≡ scope_of_names (with_params env ps vs)
 scope_of_params env [] vs = refl
-scope_of_params env (p ∷ ps) vs = scope_of_params ((p.name, Local p.kind (first_value vs)) ∷ env) ps (drop 1 vs)
+scope_of_params env (p ∷ ps) vs = scope_of_params ((p.name, Local p.kind (Ok (first_value vs))) ∷ env) ps (drop 1 vs)
 
 names_after : (env : Environment) (fs : List FunctionInfo) → fold with_signature (scope_of_names env) fs ≡ scope_of_names (fold with_function env fs)
 names_after env [] = refl
@@ -71,36 +72,36 @@ local_there [] (suc n) = refl
 local_there (v ∷ vs) (suc n) = local_there vs n
 
 -- the values of the parameters stand in the frame
-pub holds_params : (given : List Gives) (frame : List Value) (env : Environment) (ps : List Param) (vs : List Value)
-    → vs ≡ drop (locals env) frame → Holds given frame env → Holds given frame (with_params env ps vs)
-holds_params given frame env [] vs is h = h
-holds_params given frame env (p ∷ ps) vs is h =
-    let more : Environment = (p.name, Local p.kind (first_value vs)) ∷ env in
-    let count : locals env + 1 ≡ locals more = omega (arith, count_cons (λ (entry : Name × Bound). is_local entry.1) (p.name, Local p.kind (first_value vs)) env) in
-    holds_params given frame more ps (drop 1 vs)
-    (ap (drop 1) is ∙ drop-drop 1 (locals env) frame ∙ ap (λ n. drop n frame) count)
-    (local_there frame (locals env) ∙ ap (λ ws. Ok (first_value ws)) (sym is), h)
+pub holds_params : (sight : Sight) (env : Environment) (ps : List Param) (vs : List Value)
+    → vs ≡ drop (locals env) sight.values → Holds sight [] env → Holds sight [] (with_params env ps vs)
+holds_params sight env [] vs is h = h
+holds_params sight env (p ∷ ps) vs is h =
+    let more : Environment = (p.name, Local p.kind (Ok (first_value vs))) ∷ env in
+    let count : locals env + 1 ≡ locals more = omega (arith, count_cons (λ (entry : Name × Bound). is_local entry.1) (p.name, Local p.kind (Ok (first_value vs))) env) in
+    holds_params sight more ps (drop 1 vs)
+    (ap (drop 1) is ∙ drop-drop 1 (locals env) sight.values ∙ ap (λ n. drop n sight.values) count)
+    (local_there sight.values (locals env) ∙ ap (λ ws. Ok (first_value ws)) (sym is), h)
 
 functions_one : (f : FunctionInfo) (env : Environment) → functions (with_function env f) ≡ functions env + 1
 functions_one f env = count_cons (λ (entry : Name × Bound). is_function entry.1) (f.name, Function (function_value env f)) env
 
 -- functions that stand behind others at their numbers
-holds_after : (frame : List Value) (fs : List FunctionInfo) (before : List Gives) (env : Environment) (given : List Gives)
-    → given ≡ before ++ gives_after env fs → length before ≡ functions env → IsTrue (list_all has_few fs) → Holds given frame env → Holds given frame (fold with_function env fs)
-holds_after frame [] before env given is count few h = h
-holds_after frame (f ∷ fs) before env given is count few h =
+holds_after : (sight : Sight) (spots : List Spot) (fs : List FunctionInfo) (before : List Gives) (env : Environment)
+    → sight.functions ≡ before ++ gives_after env fs → length before ≡ functions env → IsTrue (list_all has_few fs) → Holds sight spots env → Holds sight spots (fold with_function env fs)
+holds_after sight spots [] before env is count few h = h
+holds_after sight spots (f ∷ fs) before env is count few h =
     let g = (function_value env f).gives in
     let rest = gives_after (with_function env f) fs in
-    let again : given ≡ (before ++ g ∷ []) ++ rest = is ∙ sym (append_assoc before (g ∷ []) rest) in
-    let found : slice_get given (functions env) ≡ Some g =
+    let again : sight.functions ≡ (before ++ g ∷ []) ++ rest = is ∙ sym (append_assoc before (g ∷ []) rest) in
+    let found : slice_get sight.functions (functions env) ≡ Some g =
     ap (λ xs. slice_get xs (functions env)) again ∙ get_kept (before ++ g ∷ []) rest (functions env) g (ap (slice_get (before ++ g ∷ [])) (sym count) ∙ get_push before g) in
     let more : length (before ++ g ∷ []) ≡ functions (with_function env f) = omega (arith, length_push before g, count, functions_one f env) in
-    holds_after frame fs (before ++ g ∷ []) (with_function env f) given again more (and_right (has_few f) (list_all has_few fs) few)
+    holds_after sight spots fs (before ++ g ∷ []) (with_function env f) again more (and_right (has_few f) (list_all has_few fs) few)
     (found, omega (arith, leb-true (length f.params) 8 (and_left (has_few f) (list_all has_few fs) few), length-map f.params (λ p. p.kind)), h)
 
 -- the functions stand at their numbers
-pub holds_functions : (frame : List Value) (fs : List FunctionInfo) (given : List Gives) → given ≡ gives_of fs → IsTrue (list_all has_few fs) → Holds given frame (environment_of fs)
-holds_functions frame fs given is few = holds_after frame fs [] [] given is refl few tt
+pub holds_functions : (sight : Sight) (spots : List Spot) (fs : List FunctionInfo) → sight.functions ≡ gives_of fs → IsTrue (list_all has_few fs) → Holds sight spots (environment_of fs)
+holds_functions sight spots fs is few = holds_after sight spots fs [] [] is refl few tt
 
 -- ---- one function more
 
@@ -124,17 +125,17 @@ no_locals : (fs : List FunctionInfo) (values : List Value) → values ≡ drop (
 no_locals fs values = ap (λ n. drop n values) (sym (locals_after [] fs))
 
 -- the code of its body gives what the function gives
-body_same : (fs : List FunctionInfo) (codes : List Code) (scope : Scope) (f : FunctionInfo) (code : Code) → IsCompiled fs codes scope → IsCode (body_scope scope f.params) f.kind f.body code
-    → (λ values. gives (functions_of codes) values code) ≡ (function_value (environment_of fs) f).gives
+body_same : (fs : List FunctionInfo) (codes : List Code) (scope : Scope) (f : FunctionInfo) (code : Code) → IsCompiled fs codes scope → IsCode (body_scope scope f.params) [] f.kind 0 f.body code
+    → (λ values. gives (body_sight (functions_of codes) values) code) ≡ (function_value (environment_of fs) f).gives
 body_same fs codes scope f code c is =
     λ i values.
-    is.means (with_params (environment_of fs) f.params values) (functions_of codes) values
+    is.means (with_params (environment_of fs) f.params values) (body_sight (functions_of codes) values)
     (ap (λ s. body_scope s f.params) (c.named ∙ scope_of_functions fs) ∙ scope_of_params (environment_of fs) f.params values)
-    (holds_params (functions_of codes) values (environment_of fs) f.params values (no_locals fs values) (holds_functions values fs (functions_of codes) c.same c.few))
+    (holds_params (body_sight (functions_of codes) values) (environment_of fs) f.params values (no_locals fs values) (holds_functions (body_sight (functions_of codes) values) [] fs c.same c.few))
     i
 
 pub compiled_push : (fs : List FunctionInfo) (codes : List Code) (scope : Scope) (f : FunctionInfo) (code : Code)
-    → IsCompiled fs codes scope → length f.params ≤ 8 → IsCode (body_scope scope f.params) f.kind f.body code
+    → IsCompiled fs codes scope → length f.params ≤ 8 → IsCode (body_scope scope f.params) [] f.kind 0 f.body code
     → IsCompiled (fs ++ f ∷ []) (codes ++ code ∷ []) (with_signature scope f)
 compiled_push fs codes scope f code c few is = record {
   named = ap (λ s. with_signature s f) c.named ∙ sym (fold_push with_signature [] fs f);

@@ -1,8 +1,7 @@
 -- When code gives what an expression gives.
 use Rattle.std.specs.List.{list_all}
-use Rattle.std.specs.Prelude.{◌≡◌, ⊤, IsTrue, ℕ, ◌≤◌, nat_le, count_by, Bool, true, false, Some, Ok, List, [], ◌∷◌, length, map, slice_get}
+use Rattle.std.specs.Prelude.{◌≡◌, ⊤, IsTrue, ℕ, ◌^◌, ◌≤◌, ◌-◌, nat_le, count_by, min, Bool, true, false, Some, List, [], ◌∷◌, length, map, slice_get, pos, unwrap_or}
 use Rattle.pts_types.specs.declared.value.Kind.{Kind}
-use Rattle.pts_types.specs.declared.value.Value.{Value}
 use Rattle.pts_tree.specs.declared.expr.ChainPart.{ChainPart}
 use Rattle.pts_tree.specs.declared.expr.Expr.{Expr}
 use Rattle.pts_rules.specs.declared.meaning.Meaning.{Meaning}
@@ -10,15 +9,18 @@ use Rattle.pts_rules.specs.declared.meaning.Meaning.TheVariants as meanings
 use Rattle.pts_rules.specs.Known.{Scope}
 use Rattle.pts_code.specs.declared.code.Code.{Code}
 use Rattle.pts_code.specs.declared.code.Step.{Step}
+use Rattle.pts_code.specs.declared.compiling.Spot.{Spot}
+use Rattle.pts_code.specs.declared.compiling.Spot.TheVariants as places
 use Rattle.pts_code.specs.declared.function.FunctionInfo.{FunctionInfo}
-use Rattle.pts_code.specs.Codes.{gives, local, functions_of}
+use Rattle.pts_code.specs.Codes.{Sight, gives, local, functions_of}
 use Rattle.pts_code.specs.Functions.{scope_of, gives_of}
-use Rattle.pts_code.specs.Outcomes.{Gives, Operation}
-use Rattle.pts_code.specs.Values.{Bound, Local, Function, Environment, valuation, value_of, at_kinds, truths}
+use Rattle.pts_code.specs.Outcomes.{Outcome, Operation}
+use Rattle.pts_code.specs.Values.{Bound, Local, Array, Function, Environment, Part, note, noted, operations, valuation, value_of, at_kinds, truths}
 
 -- what the rules know of a name
 abbrev pub meaning_of_bound : Bound → Meaning
-meaning_of_bound (Local kind value) = meanings.Value kind
+meaning_of_bound (Local kind outcome) = meanings.Value kind
+meaning_of_bound (Array kind) = meanings.Array kind (pos 0)
 meaning_of_bound (Function f) = meanings.Function (record { params = f.params; kind = f.kind; depth = 0; size = 0 })
 
 -- the scope of an environment
@@ -26,52 +28,68 @@ abbrev pub scope_of_names : Environment → Scope
 scope_of_names env = map (λ entry. (entry.0, meaning_of_bound entry.1)) env
 
 abbrev pub is_local : Bound → Bool
-is_local (Local kind value) = true
-is_local (Function f) = false
+is_local (Local kind outcome) = true
+is_local _ = false
 
 abbrev pub is_function : Bound → Bool
-is_function (Local kind value) = false
 is_function (Function f) = true
+is_function _ = false
 
--- how many parameters an environment has, and how many functions
+-- how many local values an environment has, and how many functions
 abbrev pub locals : Environment → ℕ
 locals env = count_by (λ entry. is_local entry.1) env
 
 abbrev pub functions : Environment → ℕ
 functions env = count_by (λ entry. is_function entry.1) env
 
--- the frame has the value of each parameter at its number, and the functions have each function at its number
-abbrev pub Holds : List Gives → List Value → Environment → Type 0
-Holds given frame [] = ⊤
-Holds given frame ((name, Local kind value) ∷ env) = (local frame (locals env) ≡ Ok value) × Holds given frame env
-Holds given frame ((name, Function f) ∷ env) = (slice_get given (functions env) ≡ Some f.gives) × (length f.params ≤ 8) × Holds given frame env
+-- where the local value of this number stands; those that have no spot of their own stand in the frame at their numbers
+abbrev pub spot_of : List Spot → ℕ → Spot
+spot_of spots number = unwrap_or (slice_get spots number) (places.Local number)
+
+-- what stands at a spot
+abbrev pub at_spot : Sight → Spot → Outcome
+at_spot sight (places.Local place) = local sight.values place
+at_spot sight (places.Note place) = note sight.notes place
+
+-- each local value stands at its spot, and each function at its number
+abbrev pub Holds : Sight → List Spot → Environment → Type 0
+Holds sight spots [] = ⊤
+Holds sight spots ((name, Local kind outcome) ∷ env) = (at_spot sight (spot_of spots (locals env)) ≡ outcome) × Holds sight spots env
+Holds sight spots ((name, Array kind) ∷ env) = Holds sight spots env
+Holds sight spots ((name, Function f) ∷ env) = (slice_get sight.functions (functions env) ≡ Some f.gives) × (length f.params ≤ 8) × Holds sight spots env
 
 -- in each environment of the scope the code gives what is wanted
-pub record Means {A : Type 0} (scope : Scope) (wanted : Environment → A) (had : List Gives → List Value → A) : Type 0 where
-  pub means : (env : Environment) (given : List Gives) (frame : List Value) → scope ≡ scope_of_names env → Holds given frame env → had given frame ≡ wanted env
+pub record Means {A : Type 0} (scope : Scope) (spots : List Spot) (wanted : Environment → Sight → A) (had : Sight → A) : Type 0 where
+  pub means : (env : Environment) (sight : Sight) → scope ≡ scope_of_names env → Holds sight spots env → had sight ≡ wanted env sight
 
--- the code of an expression at a kind
-abbrev pub IsCode : Scope → Kind → Expr → Code → Type 0
-IsCode scope kind x code = Means scope (λ env. value_of env kind x) (λ given frame. gives given frame code)
+-- the code of an expression at a kind, whose elements are noted from this place on
+abbrev pub IsCode : Scope → List Spot → Kind → ℕ → Expr → Code → Type 0
+IsCode scope spots kind first x code = Means scope spots (λ env sight. value_of env (noted sight.notes) kind first x) (λ sight. gives sight code)
 
 -- the codes of the arguments of a call, each at the kind of its parameter
-abbrev pub AreArguments : Scope → List Kind → List Expr → List Code → Type 0
-AreArguments scope kinds xs codes = Means scope (λ env. at_kinds kinds (map (valuation env) xs)) (λ given frame. map (gives given frame) codes)
+abbrev pub AreArguments : Scope → List Spot → List Kind → ℕ → List Expr → List Code → Type 0
+AreArguments scope spots kinds first xs codes =
+    Means scope spots (λ env sight. at_kinds kinds (map (valuation env (noted sight.notes)) xs) first) (λ sight. map (gives sight) codes)
 
 -- the codes of truths
-abbrev pub AreTruths : Scope → List Expr → List Code → Type 0
-AreTruths scope xs codes = Means scope (λ env. truths (map (valuation env) xs)) (λ given frame. map (gives given frame) codes)
+abbrev pub AreTruths : Scope → List Spot → ℕ → List Expr → List Code → Type 0
+AreTruths scope spots first xs codes = Means scope spots (λ env sight. truths (map (valuation env (noted sight.notes)) xs) first) (λ sight. map (gives sight) codes)
 
--- an operator and what its operand gives at a kind
-abbrev pub part_at : Environment → Kind → ChainPart → Operation
-part_at env kind part = (part.op, value_of env kind part.operand)
+-- an operator and its operand
+abbrev pub part_of : Environment → Sight → ChainPart → Part
+part_of env sight part = (part.op, valuation env (noted sight.notes) part.operand)
 
-abbrev pub step_at : List Gives → List Value → Step → Operation
-step_at given frame step = (step.op, gives given frame step.operand)
+abbrev pub step_at : Sight → Step → Operation
+step_at sight step = (step.op, gives sight step.operand)
 
 -- the steps of a chain
-abbrev pub AreSteps : Scope → Kind → List ChainPart → List Step → Type 0
-AreSteps scope kind parts steps = Means scope (λ env. map (part_at env kind) parts) (λ given frame. map (step_at given frame) steps)
+abbrev pub AreSteps : Scope → List Spot → Kind → ℕ → List ChainPart → List Step → Type 0
+AreSteps scope spots kind first parts steps =
+    Means scope spots (λ env sight. operations kind (map (part_of env sight) parts) first) (λ sight. map (step_at sight) steps)
+
+-- a count that stops at the greatest number
+abbrev pub capped : ℕ → ℕ
+capped n = min n (2 ^ 64 - 1)
 
 -- ---- functions
 

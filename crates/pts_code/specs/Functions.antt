@@ -1,5 +1,5 @@
 -- What functions give, each of which calls earlier ones only.
-use Rattle.std.specs.Prelude.{ℕ, Some, None, List, [], ◌∷◌, fold, map, take, drop, slice_get}
+use Rattle.std.specs.Prelude.{ℕ, Some, None, Ok, List, [], ◌∷◌, fold, map, take, drop, slice_get}
 use Rattle.pts_types.specs.declared.value.Kind.{Kind}
 use Rattle.pts_types.specs.declared.value.Value.{Value}
 use Rattle.pts_types.specs.declared.value.Value.TheVariants as values
@@ -9,7 +9,7 @@ use Rattle.pts_rules.specs.Known.{Scope}
 use Rattle.pts_rules.specs.Scopes.{param_entry}
 use Rattle.pts_code.specs.declared.function.FunctionInfo.{FunctionInfo}
 use Rattle.pts_code.specs.Outcomes.{Gives, never}
-use Rattle.pts_code.specs.Values.{FunctionValue, Local, Function, Environment, value_of}
+use Rattle.pts_code.specs.Values.{FunctionValue, Local, Function, Environment, no_reads, value_of}
 
 -- ---- what functions give
 
@@ -21,7 +21,7 @@ first_value (value ∷ rest) = value
 -- the parameters of a function with the values of its arguments
 abbrev pub with_params : Environment → List Param → List Value → Environment
 with_params env [] arguments = env
-with_params env (p ∷ ps) arguments = with_params ((p.name, Local p.kind (first_value arguments)) ∷ env) ps (drop 1 arguments)
+with_params env (p ∷ ps) arguments = with_params ((p.name, Local p.kind (Ok (first_value arguments))) ∷ env) ps (drop 1 arguments)
 
 abbrev pub kinds_of : List Param → List Kind
 kinds_of params = map (λ p. p.kind) params
@@ -31,7 +31,7 @@ abbrev pub function_value : Environment → FunctionInfo → FunctionValue
 function_value env f = record {
   params = kinds_of f.params;
   kind = f.kind;
-  gives = λ arguments. value_of (with_params env f.params arguments) f.kind f.body;
+  gives = λ arguments. value_of (with_params env f.params arguments) no_reads f.kind 0 f.body;
 }
 
 -- a function more, in the environment of those before it

@@ -10,6 +10,8 @@ pub enum Code {
     Value(Value),
     /// The value at this place of the frame.
     Local(usize),
+    /// What was noted at this place: a value, or a fault that is thrown where it is taken.
+    Note(usize),
     Throw(u16),
     /// The function of this number at the values of its arguments.
     Call(usize, Items<Code>),

@@ -1,13 +1,16 @@
 //! Functions in order, ready to be called.
 
-ghost use Rattle.std.specs.Prelude.{◌≡◌, ◌<◌, ◌≤◌, [], ◌∷◌, ◌++◌, IfOk, OnOk, length, map};
-ghost use Rattle.pts_code.specs.Compiling.{IsCode, IsCompiled};
-ghost use Rattle.pts_code.specs.Functions.{body_scope, kinds_of, outcome_of, with_signature};
+ghost use Rattle.std.specs.Prelude.{◌≡◌, ◌<◌, ◌≤◌, [], ◌∷◌, ◌++◌, IfOk, List, OnOk, Some, fold, length, map, slice_get};
+ghost use Rattle.pts_code.specs.Codes.{Sight, functions_of};
+ghost use Rattle.pts_code.specs.Compiling.{Holds, IsCode, IsCompiled};
+ghost use Rattle.pts_code.specs.declared.compiling.Spot.{Spot};
+ghost use Rattle.pts_code.specs.Functions.{body_scope, environment_of, kinds_of, outcome_of, with_signature};
 
 use crate::code::Code;
-use crate::compile::compile;
+use crate::compiling::{Names, compile};
 use crate::evaluation::{Frame, eval};
 use crate::function::FunctionInfo;
+use crate::numbers::numbers_in;
 use pts_rules::{Meaning, Scope, Signature};
 use pts_tree::Param;
 use pts_types::{Kind, NoMemory, Thrown, Value};
@@ -40,8 +43,8 @@ impl Model for Codes {
 }
 
 pub(crate) fn enter_params(
-    scope: &mut Scope,
     alloc: Global,
+    scope: &mut Scope,
     params: &[Param],
 ) -> Result<(), NoMemory>
     ensures { OnOk result (scope.new ≡ body_scope scope.old params.now) }
@@ -63,8 +66,8 @@ fn param_kinds(alloc: Global, params: &[Param]) -> Result<Items<Kind>, AllocErro
 }
 
 pub(crate) fn enter_function(
-    scope: &mut Scope,
     alloc: Global,
+    scope: &mut Scope,
     function: &FunctionInfo,
 ) -> Result<(), NoMemory>
     ensures { OnOk result (scope.new ≡ with_signature scope.old function.now) }
@@ -79,13 +82,35 @@ pub(crate) fn enter_function(
     scope.enter(alloc, &function.name, Meaning::Function(signature))
 }
 
-fn compile_body(scope: &mut Scope, alloc: Global, function: &FunctionInfo) -> Result<Code, NoMemory>
-    ensures code { IfOk result (λ code. IsCode (body_scope scope.old function.now.params) function.now.kind function.now.body code) }
+/// Enters functions, the latest first in the scope, for code that may call them.
+pub fn enter_functions(
+    alloc: Global,
+    scope: &mut Scope,
+    functions: &[FunctionInfo],
+) -> Result<(), NoMemory>
+    ensures { OnOk result (scope.new ≡ fold with_signature scope.old functions.now) }
+{
+    for function in functions {
+        enter_function(alloc, scope, function)?;
+    }
+    Ok(())
+}
+
+// The arguments stand in the frame in order. No memory holds a body with more elements than there are numbers.
+fn compile_body(alloc: Global, scope: &mut Scope, function: &FunctionInfo) -> Result<Code, NoMemory>
+    ensures code { IfOk result (λ code. IsCode (body_scope scope.old function.now.params) [] function.now.kind 0 function.now.body code) }
     ensures same { OnOk result (scope.new ≡ scope.old) }
 {
+    if numbers_in(&function.body, true) == usize::MAX {
+        return Err(NoMemory);
+    }
     let len = scope.len();
-    enter_params(scope, alloc, function.params.as_slice())?;
-    let code = compile(alloc, scope, function.kind, &function.body).map_err(|_| NoMemory)?;
+    enter_params(alloc, scope, function.params.as_slice())?;
+    let names = Names {
+        scope: &*scope,
+        spots: &[],
+    };
+    let code = compile(alloc, &names, function.kind, 0, &function.body).map_err(|_| NoMemory)?;
     scope.leave(len);
     Ok(code)
 }
@@ -123,6 +148,22 @@ impl Codes {
         self.functions.as_slice()
     }
 
+    /// What computes the functions, by their numbers: wherever code may call these, each function stands at its number.
+    pub fn codes(&self) -> &[Code]
+        ensures { (sight : Sight) (spots : List Spot) → sight.functions ≡ functions_of result.now → Holds sight spots (environment_of self.now) }
+    {
+        self.codes.as_slice()
+    }
+
+    /// The function of a number, from 0.
+    pub fn function(&self, number: usize) -> &FunctionInfo
+        requires { number < length self.now }
+        ensures is { Some result.now ≡ slice_get self.now number }
+        ensures few { length result.now.params ≤ 8 }
+    {
+        &self.functions[number]
+    }
+
     /// One function more, behind those that it may call. It has at most eight parameters.
     pub fn push(self, alloc: Global, function: FunctionInfo) -> Result<Codes, NoMemory>
         requires { length function.params ≤ 8 }
@@ -133,8 +174,8 @@ impl Codes {
             mut codes,
             mut scope,
         } = self;
-        let code = compile_body(&mut scope, alloc, &function)?;
-        enter_function(&mut scope, alloc, &function)?;
+        let code = compile_body(alloc, &mut scope, &function)?;
+        enter_function(alloc, &mut scope, &function)?;
         let Ok(()) = push_both(&mut functions, &mut codes, function, code) else {
             return Err(NoMemory);
         };
@@ -155,6 +196,7 @@ impl Codes {
         let frame = Frame {
             codes: &codes[..function],
             values: arguments,
+            notes: &[],
         };
         eval(&frame, &codes[function])
     }

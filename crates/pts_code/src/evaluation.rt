@@ -1,21 +1,23 @@
 //! What code gives.
 
-ghost use Rattle.std.specs.Prelude.{◌≡◌, ◌<◌, ◌≤◌, length, map, [], Ok, Err, MatchResult};
+ghost use Rattle.std.specs.Prelude.{◌≡◌, ◌<◌, ◌≤◌, length, map, [], Ok, Err, MatchResult, unwrap_or};
 ghost use Rattle.arrayvec.specs.ArrayVec.{array_vec_len};
 ghost use Rattle.pts_types.specs.Arithmetic as arithmetic;
 ghost use Rattle.pts_code.specs.Codes as spec;
 ghost use Rattle.pts_code.specs.Outcomes as outcomes;
+ghost use Rattle.pts_code.specs.Values as valued;
 
 use crate::code::{Code, Step};
 use crate::values::{inverted, is_true, negated, operated};
 use arrayvec::ArrayVec;
 use pts_types::{Kind, Thrown, Value, convert};
 
-/// The functions that code may call, and the values of its parameters.
+/// The functions that code may call, the values of its frame, and what was noted before it.
 #[derive(Clone, Copy)]
 pub struct Frame<'a> {
     pub codes: &'a [Code],
     pub values: &'a [Value],
+    pub notes: &'a [Option<Result<Value, Thrown>>],
 }
 
 fn local(values: &[Value], place: usize) -> Result<Value, Thrown>
@@ -23,6 +25,25 @@ fn local(values: &[Value], place: usize) -> Result<Value, Thrown>
 {
     match values.get(place) {
         Some(value) => Ok(*value),
+        None => Ok(Value::U64(0)),
+    }
+}
+
+#[inline(never)]
+fn noted(notes: &[Option<Result<Value, Thrown>>], place: usize) -> Result<Value, Thrown>
+    ensures { result ≡ valued.note notes.now place }
+{
+    match notes.get(place) {
+        Some(note) => taken(*note),
+        None => Ok(Value::U64(0)),
+    }
+}
+
+fn taken(note: Option<Result<Value, Thrown>>) -> Result<Value, Thrown>
+    ensures { result ≡ unwrap_or note outcomes.never }
+{
+    match note {
+        Some(outcome) => outcome,
         None => Ok(Value::U64(0)),
     }
 }
@@ -63,6 +84,7 @@ fn eval_call(frame: &Frame<'_>, function: usize, arguments: &[Code]) -> Result<V
     let inner = Frame {
         codes: &frame.codes[..function],
         values: values.as_slice(),
+        notes: &[],
     };
     eval(&inner, &frame.codes[function])
 }
@@ -152,6 +174,7 @@ pub fn eval(frame: &Frame<'_>, code: &Code) -> Result<Value, Thrown>
     match code {
         Code::Value(value) => Ok(*value),
         Code::Local(place) => local(frame.values, *place),
+        Code::Note(place) => noted(frame.notes, *place),
         Code::Throw(number) => Err(Thrown::Code(*number)),
         Code::Call(function, arguments) => eval_call(frame, *function, arguments.as_slice()),
         Code::Convert(to, operand) => eval_convert(frame, *to, operand.get()),

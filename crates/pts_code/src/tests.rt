@@ -1,9 +1,14 @@
-//! Functions and their values, worked out by hand.
+//! Values worked out by hand, and the deepest functions.
 
 ghost use Rattle.std.specs.Prelude.{◌<◌};
 
-use crate::codes::Codes;
+use crate::code::Code;
+use crate::codes::{Codes, enter_functions};
+use crate::compiling::{Names, Spot, compile};
+use crate::evaluation::{Frame, eval};
 use crate::function::FunctionInfo;
+use crate::numbers::numbers_in;
+use pts_rules::{Meaning, Scope};
 use pts_tree::{ChainPart, Expr, Name, Param};
 use pts_types::{Kind, ScalarOp, Thrown, Value};
 use sqlite_items::{Boxed, Items};
@@ -11,34 +16,16 @@ use std::alloc::{AllocError, Global};
 use std::test::Fail;
 use std::thread::join;
 
-// ---- functions in order
-
-fn with_function(alloc: Global, codes: Codes, function: FunctionInfo) -> Result<Codes, AllocError> {
-    if function.params.len() <= 8 {
-        codes.push(alloc, function).map_err(|_| AllocError)
-    } else {
-        Err(AllocError)
-    }
-}
-
-fn outcome(codes: &Codes, function: usize, arguments: &[Value]) -> Option<Result<Value, Thrown>> {
-    if function < codes.functions().len() {
-        Some(codes.call(function, arguments))
-    } else {
-        None
-    }
-}
-
 // ---- trees, written with operators behind their operands
 
 #[derive(Clone, Copy)]
 enum Token {
     Number(u64),
     Truth(bool),
-    Local(&'static str),
-    Throw(u64),
+    Name(&'static str),
+    // An element, whose index stands before it.
+    Element(&'static str),
     Minus,
-    Convert(Kind),
     Chain(ScalarOp),
     // One part more of the chain that stands before the operand.
     Part(ScalarOp),
@@ -65,10 +52,15 @@ fn boxed(alloc: Global, stack: &mut Vec<Expr>) -> Result<Boxed<Expr>, AllocError
     Boxed::new(alloc, popped(stack)?)
 }
 
-fn pair(alloc: Global, stack: &mut Vec<Expr>) -> Result<Items<Expr>, AllocError> {
-    let second = popped(stack)?;
+fn one(alloc: Global, stack: &mut Vec<Expr>) -> Result<Items<Expr>, AllocError> {
     let mut members = Items::new(alloc);
     members.push(popped(stack)?)?;
+    Ok(members)
+}
+
+fn pair(alloc: Global, stack: &mut Vec<Expr>) -> Result<Items<Expr>, AllocError> {
+    let second = popped(stack)?;
+    let mut members = one(alloc, stack)?;
     members.push(second)?;
     Ok(members)
 }
@@ -100,27 +92,20 @@ fn choice(alloc: Global, stack: &mut Vec<Expr>) -> Result<Expr, AllocError> {
     Ok(Expr::If(boxed(alloc, stack)?, then, other))
 }
 
-fn call(alloc: Global, function: &str, stack: &mut Vec<Expr>) -> Result<Expr, AllocError> {
-    let mut arguments = Items::new(alloc);
-    arguments.push(popped(stack)?)?;
-    Ok(Expr::Call(name(alloc, function)?, arguments))
-}
-
 fn built(alloc: Global, token: Token, stack: &mut Vec<Expr>) -> Result<Expr, AllocError> {
     match token {
         Token::Number(number) => Ok(Expr::Number(number)),
         Token::Truth(truth) => Ok(if truth { Expr::True } else { Expr::False }),
-        Token::Local(text) => Ok(Expr::Name(name(alloc, text)?)),
-        Token::Throw(code) => Ok(Expr::Throw(code)),
+        Token::Name(text) => Ok(Expr::Name(name(alloc, text)?)),
+        Token::Element(text) => Ok(Expr::Element(name(alloc, text)?, boxed(alloc, stack)?)),
         Token::Minus => Ok(Expr::Minus(boxed(alloc, stack)?)),
-        Token::Convert(to) => Ok(Expr::Convert(to, boxed(alloc, stack)?)),
         Token::Chain(op) => chain(alloc, op, stack),
         Token::Part(op) => longer_chain(op, stack),
         Token::Compare(op) => compare(alloc, op, stack),
         Token::All => Ok(Expr::All(pair(alloc, stack)?)),
         Token::Any => Ok(Expr::Any(pair(alloc, stack)?)),
         Token::If => choice(alloc, stack),
-        Token::Call(text) => call(alloc, text, stack),
+        Token::Call(text) => Ok(Expr::Call(name(alloc, text)?, one(alloc, stack)?)),
         Token::CallTwo(text) => Ok(Expr::Call(name(alloc, text)?, pair(alloc, stack)?)),
     }
 }
@@ -133,284 +118,211 @@ fn put_all(alloc: Global, tokens: &[Token], stack: &mut Vec<Expr>) -> Result<(),
     Ok(())
 }
 
-// ---- functions
-
-struct Text {
-    name: &'static str,
-    params: &'static [(&'static str, Kind)],
-    kind: Kind,
-    body: &'static [Token],
+fn tree(alloc: Global, tokens: &[Token]) -> Result<Expr, AllocError> {
+    let mut stack = Vec::new(alloc);
+    put_all(alloc, tokens, &mut stack)?;
+    popped(&mut stack)
 }
 
-fn params_of(alloc: Global, params: &[(&str, Kind)]) -> Result<Items<Param>, AllocError> {
+// ---- functions
+
+fn params_of(alloc: Global, names: &[&str], kind: Kind) -> Result<Items<Param>, AllocError> {
     let mut all = Items::new(alloc);
-    for (text, kind) in params {
+    for text in names {
         all.push(Param {
             name: name(alloc, text)?,
-            kind: *kind,
+            kind,
         })?;
     }
     Ok(all)
 }
 
-fn function(alloc: Global, text: &Text) -> Result<FunctionInfo, AllocError> {
-    let mut stack = Vec::new(alloc);
-    put_all(alloc, text.body, &mut stack)?;
-    Ok(FunctionInfo {
-        name: name(alloc, text.name)?,
-        params: params_of(alloc, text.params)?,
-        kind: text.kind,
-        body: popped(&mut stack)?,
-    })
+fn with_function(alloc: Global, codes: Codes, function: FunctionInfo) -> Result<Codes, AllocError> {
+    if function.params.len() <= 8 {
+        codes.push(alloc, function).map_err(|_| AllocError)
+    } else {
+        Err(AllocError)
+    }
 }
 
-const X: Token = Token::Local("x");
+fn outcome(codes: &Codes, function: usize, arguments: &[Value]) -> Option<Result<Value, Thrown>> {
+    if function < codes.functions().len() {
+        Some(codes.call(function, arguments))
+    } else {
+        None
+    }
+}
 
-const Y: Token = Token::Local("y");
+// ---- expressions with elements and faults
 
-const SIGNED: &[(&str, Kind)] = &[("x", Kind::I64)];
+const X: Token = Token::Name("x");
 
-const UNSIGNED: &[(&str, Kind)] = &[("x", Kind::U64)];
+const ZERO: Token = Token::Number(0);
 
-const TWO: &[(&str, Kind)] = &[("x", Kind::I64), ("y", Kind::I64)];
+const A: Token = Token::Element("a");
 
-const TEXTS: [Text; 15] = [
-    // x / y + x % y
-    Text {
-        name: "f",
-        params: TWO,
-        kind: Kind::I64,
-        body: &[
-            X,
-            Y,
-            Token::Chain(ScalarOp::Divides),
-            X,
-            Y,
-            Token::Chain(ScalarOp::Modulus),
-            Token::Chain(ScalarOp::Plus),
-        ],
-    },
-    // f(y, x)
-    Text {
-        name: "g",
-        params: TWO,
-        kind: Kind::I64,
-        body: &[Y, X, Token::CallTwo("f")],
-    },
-    // x == 0 || 10 / x > 3
-    Text {
-        name: "none_or_few",
-        params: UNSIGNED,
-        kind: Kind::Bool,
-        body: &[
-            X,
-            Token::Number(0),
-            Token::Compare(ScalarOp::Equal),
-            Token::Number(10),
-            X,
-            Token::Chain(ScalarOp::Divides),
-            Token::Number(3),
-            Token::Compare(ScalarOp::Greater),
-            Token::Any,
-        ],
-    },
-    // x != 0 && 10 / x > 3
-    Text {
-        name: "some_and_few",
-        params: UNSIGNED,
-        kind: Kind::Bool,
-        body: &[
-            X,
-            Token::Number(0),
-            Token::Compare(ScalarOp::NotEqual),
-            Token::Number(10),
-            X,
-            Token::Chain(ScalarOp::Divides),
-            Token::Number(3),
-            Token::Compare(ScalarOp::Greater),
-            Token::All,
-        ],
-    },
-    // if x == 0 then 5 else 10 / x
-    Text {
-        name: "choice",
-        params: UNSIGNED,
-        kind: Kind::U64,
-        body: &[
-            X,
-            Token::Number(0),
-            Token::Compare(ScalarOp::Equal),
-            Token::Number(5),
-            Token::Number(10),
-            X,
-            Token::Chain(ScalarOp::Divides),
-            Token::If,
-        ],
-    },
-    // throw 1 + x / 0
-    Text {
-        name: "early",
-        params: SIGNED,
-        kind: Kind::I64,
-        body: &[
-            Token::Throw(1),
-            X,
-            Token::Number(0),
-            Token::Chain(ScalarOp::Divides),
-            Token::Chain(ScalarOp::Plus),
-        ],
-    },
-    // x / 0 + throw 1
-    Text {
-        name: "late",
-        params: SIGNED,
-        kind: Kind::I64,
-        body: &[
-            X,
-            Token::Number(0),
-            Token::Chain(ScalarOp::Divides),
-            Token::Throw(1),
-            Token::Chain(ScalarOp::Plus),
-        ],
-    },
-    // x - 3 - 4
-    Text {
-        name: "left",
-        params: SIGNED,
-        kind: Kind::I64,
-        body: &[
-            X,
-            Token::Number(3),
-            Token::Chain(ScalarOp::Minus),
-            Token::Number(4),
+const MINUS: Token = Token::Chain(ScalarOp::Minus);
+
+const EQUAL: Token = Token::Compare(ScalarOp::Equal);
+
+// What the elements of each row gave, and behind it the local value t.
+const NOTES: &[Option<Result<Value, Thrown>>] = &[
+    Some(Ok(Value::U64(10))),
+    Some(Err(Thrown::Overflow)),
+    None,
+    Some(Ok(Value::U64(7))),
+];
+
+struct Row {
+    tokens: &'static [Token],
+    outcome: Result<Value, Thrown>,
+}
+
+const ROWS: &[Row] = &[
+    // a[0] - t - 2
+    Row {
+        tokens: &[
+            ZERO,
+            A,
+            Token::Name("t"),
+            MINUS,
+            Token::Number(2),
             Token::Part(ScalarOp::Minus),
         ],
+        outcome: Ok(Value::U64(1)),
     },
-    // u64(x)
-    Text {
-        name: "unsigned",
-        params: SIGNED,
-        kind: Kind::U64,
-        body: &[X, Token::Convert(Kind::U64)],
+    // a[0] - a[0]
+    Row {
+        tokens: &[ZERO, A, ZERO, A, MINUS],
+        outcome: Err(Thrown::Overflow),
     },
-    // i64(x)
-    Text {
-        name: "signed",
-        params: UNSIGNED,
-        kind: Kind::I64,
-        body: &[X, Token::Convert(Kind::I64)],
+    // a[a[0]], whose index stands before it
+    Row {
+        tokens: &[ZERO, A, A],
+        outcome: Err(Thrown::Overflow),
     },
-    // u64(bool(x)) + 1
-    Text {
-        name: "truth",
-        params: UNSIGNED,
-        kind: Kind::U64,
-        body: &[
-            X,
-            Token::Convert(Kind::Bool),
-            Token::Convert(Kind::U64),
-            Token::Number(1),
-            Token::Chain(ScalarOp::Plus),
+    // if x == 5 then a[0] else a[0]
+    Row {
+        tokens: &[X, Token::Number(5), EQUAL, ZERO, A, ZERO, A, Token::If],
+        outcome: Ok(Value::U64(10)),
+    },
+    // if x == 4 then a[0] else a[0]
+    Row {
+        tokens: &[X, Token::Number(4), EQUAL, ZERO, A, ZERO, A, Token::If],
+        outcome: Err(Thrown::Overflow),
+    },
+    // a[0] == 9 && a[0] == 9
+    Row {
+        tokens: &[
+            ZERO,
+            A,
+            Token::Number(9),
+            EQUAL,
+            ZERO,
+            A,
+            Token::Number(9),
+            EQUAL,
+            Token::All,
         ],
+        outcome: Ok(Value::Bool(false)),
     },
-    // -9223372036854775808 + x
-    Text {
-        name: "least",
-        params: SIGNED,
-        kind: Kind::I64,
-        body: &[
-            Token::Number(9_223_372_036_854_775_808),
-            Token::Minus,
-            X,
-            Token::Chain(ScalarOp::Plus),
+    // a[0] == 10 || a[0] == 10
+    Row {
+        tokens: &[
+            ZERO,
+            A,
+            Token::Number(10),
+            EQUAL,
+            ZERO,
+            A,
+            Token::Number(10),
+            EQUAL,
+            Token::Any,
         ],
+        outcome: Ok(Value::Bool(true)),
     },
-    // -x
-    Text {
-        name: "turned",
-        params: SIGNED,
-        kind: Kind::I64,
-        body: &[X, Token::Minus],
-    },
-    // 18446744073709551615 > 1
-    Text {
-        name: "bare",
-        params: SIGNED,
-        kind: Kind::Bool,
-        body: &[
-            Token::Number(18_446_744_073_709_551_615),
-            Token::Number(1),
-            Token::Compare(ScalarOp::Greater),
-        ],
-    },
-    // 1 - 2 < x
-    Text {
-        name: "below",
-        params: SIGNED,
-        kind: Kind::Bool,
-        body: &[
-            Token::Number(1),
-            Token::Number(2),
-            Token::Chain(ScalarOp::Minus),
-            X,
-            Token::Compare(ScalarOp::Less),
-        ],
+    // difference(a[0], x)
+    Row {
+        tokens: &[ZERO, A, X, Token::CallTwo("difference")],
+        outcome: Ok(Value::U64(5)),
     },
 ];
 
-fn with_texts(alloc: Global) -> Result<Codes, AllocError> {
-    let mut codes = Codes::new(alloc);
-    for text in &TEXTS {
-        codes = with_function(alloc, codes, function(alloc, text)?)?;
+// x - y
+fn difference(alloc: Global) -> Result<FunctionInfo, AllocError> {
+    Ok(FunctionInfo {
+        name: name(alloc, "difference")?,
+        params: params_of(alloc, &["x", "y"], Kind::U64)?,
+        kind: Kind::U64,
+        body: tree(alloc, &[X, Token::Name("y"), MINUS])?,
+    })
+}
+
+// The functions, the array a, and the local values x and t.
+fn names_of(alloc: Global, codes: &Codes) -> Result<Scope, AllocError> {
+    let mut scope = Scope::new(alloc);
+    let Ok(()) = enter_functions(alloc, &mut scope, codes.functions()) else {
+        return Err(AllocError);
+    };
+    let Ok(()) = scope.enter(alloc, &name(alloc, "a")?, Meaning::Array(Kind::U64, 0)) else {
+        return Err(AllocError);
+    };
+    let Ok(()) = scope.enter(alloc, &name(alloc, "x")?, Meaning::Value(Kind::U64)) else {
+        return Err(AllocError);
+    };
+    let Ok(()) = scope.enter(alloc, &name(alloc, "t")?, Meaning::Value(Kind::U64)) else {
+        return Err(AllocError);
+    };
+    Ok(scope)
+}
+
+fn code_of(alloc: Global, scope: &Scope, kind: Kind, expr: &Expr) -> Result<Code, AllocError> {
+    if numbers_in(expr, true) == usize::MAX {
+        return Err(AllocError);
     }
-    Ok(codes)
+    let spots = [Spot::Local(0), Spot::Note(3)];
+    let names = Names {
+        scope,
+        spots: &spots,
+    };
+    compile(alloc, &names, kind, 0, expr)
+}
+
+fn kind_of(outcome: Result<Value, Thrown>) -> Kind {
+    match outcome {
+        Ok(Value::Bool(_)) => Kind::Bool,
+        _ => Kind::U64,
+    }
+}
+
+fn row_holds(alloc: Global, codes: &Codes, row: &Row) -> Result<bool, AllocError> {
+    let scope = names_of(alloc, codes)?;
+    let expr = tree(alloc, row.tokens)?;
+    let code = code_of(alloc, &scope, kind_of(row.outcome), &expr)?;
+    let frame = Frame {
+        codes: codes.codes(),
+        values: &[Value::U64(5)],
+        notes: NOTES,
+    };
+    Ok(eval(&frame, &code) == row.outcome)
+}
+
+// How many rows hold.
+fn rows_that_hold(alloc: Global, codes: &Codes, rows: &[Row]) -> Result<u32, AllocError> {
+    let mut count: u32 = 0;
+    for row in rows {
+        if row_holds(alloc, codes, row)? {
+            count = count.wrapping_add(1);
+        }
+    }
+    Ok(count)
 }
 
 #[test]
-fn functions_give_what_is_worked_out_by_hand(rt: HostRuntime) -> Result<(), Fail> {
-    let codes = with_texts(rt.alloc())?;
-    let table: [(usize, &[Value], Result<Value, Thrown>); 21] = [
-        (0, &[Value::I64(-7), Value::I64(2)], Ok(Value::I64(-4))),
-        (0, &[Value::I64(7), Value::I64(0)], Err(Thrown::DivZero)),
-        (
-            0,
-            &[Value::I64(i64::MIN), Value::I64(-1)],
-            Err(Thrown::Overflow),
-        ),
-        (1, &[Value::I64(2), Value::I64(-7)], Ok(Value::I64(-4))),
-        (2, &[Value::U64(0)], Ok(Value::Bool(true))),
-        (2, &[Value::U64(5)], Ok(Value::Bool(false))),
-        (3, &[Value::U64(0)], Ok(Value::Bool(false))),
-        (3, &[Value::U64(2)], Ok(Value::Bool(true))),
-        (4, &[Value::U64(0)], Ok(Value::U64(5))),
-        (4, &[Value::U64(3)], Ok(Value::U64(3))),
-        (5, &[Value::I64(8)], Err(Thrown::Code(1))),
-        (6, &[Value::I64(8)], Err(Thrown::DivZero)),
-        (7, &[Value::I64(10)], Ok(Value::I64(3))),
-        (8, &[Value::I64(-1)], Ok(Value::U64(u64::MAX))),
-        (
-            9,
-            &[Value::U64(9_223_372_036_854_775_808)],
-            Err(Thrown::Overflow),
-        ),
-        (10, &[Value::U64(5)], Ok(Value::U64(2))),
-        (
-            11,
-            &[Value::I64(1)],
-            Ok(Value::I64(-9_223_372_036_854_775_807)),
-        ),
-        (11, &[Value::I64(-1)], Err(Thrown::Overflow)),
-        (12, &[Value::I64(i64::MIN)], Err(Thrown::Overflow)),
-        (13, &[Value::I64(0)], Ok(Value::Bool(true))),
-        (14, &[Value::I64(0)], Ok(Value::Bool(true))),
-    ];
-    for (function, arguments, expected) in table {
-        assert_eq!(rt;
-            outcome(&codes, function, arguments),
-            Some(expected),
-            "function {function}"
-        );
-    }
+fn elements_give_what_was_noted_where_they_are_taken(rt: HostRuntime) -> Result<(), Fail> {
+    let alloc = rt.alloc();
+    let codes = with_function(alloc, Codes::new(alloc), difference(alloc)?)?;
+    assert_eq!(rt; rows_that_hold(alloc, &codes, ROWS)?, 8);
     Ok(())
 }
 
@@ -476,7 +388,7 @@ fn deep_function(alloc: Global, at: usize) -> Result<FunctionInfo, AllocError>
     };
     Ok(FunctionInfo {
         name: name(alloc, NAMES[at])?,
-        params: params_of(alloc, SIGNED)?,
+        params: params_of(alloc, &["x"], Kind::I64)?,
         kind: Kind::I64,
         body,
     })
@@ -489,16 +401,6 @@ fn deepest(alloc: Global) -> Result<Codes, AllocError> {
         codes = with_function(alloc, codes, deep_function(alloc, at)?)?;
     }
     Ok(codes)
-}
-
-#[test]
-fn the_deepest_functions_end(rt: HostRuntime) -> Result<(), Fail> {
-    let codes = deepest(rt.alloc())?;
-    assert_eq!(rt;
-        outcome(&codes, 15, &[Value::I64(0)]),
-        Some(Ok(Value::I64(1)))
-    );
-    Ok(())
 }
 
 #[test]

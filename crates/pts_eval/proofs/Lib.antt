@@ -1,1 +1,5 @@
+pub mod Bounds
 pub mod Finds
+pub mod Given
+pub mod Lists
+pub mod Literals

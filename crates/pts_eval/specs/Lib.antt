@@ -1,2 +1,3 @@
-pub mod Works
+pub mod Expressions
 pub mod Runs
+pub mod Works

@@ -1,11 +1,13 @@
 //! The cells of a running program, and what its statements do with them.
 #![tactic(auto)]
 
+mod expressions;
 mod functions;
 mod store;
 mod unbuilt;
 mod work;
 
+pub use expressions::{Local, eval_expr};
 pub use functions::eval_fn;
 pub use store::Store;
 pub use unbuilt::later;

@@ -1,7 +1,7 @@
 use Rattle.std.proofs.Common.{rules, ◌≡◌, ◌+◌, Ok, Err, get_or, take, drop, map, slice_get, sym, ap, ◌∙◌, inl, inr, arith}
 use Rattle.std.proofs.lemmas.List.{length-map}
 use Rattle.std.proofs.lemmas.Option.{slice_get_cases}
-use Rattle.pts_code.specs.Codes.{gives, call, functions_of, given, operation}
+use Rattle.pts_code.specs.Codes.{body_sight, gives, call, functions_of, given, operation, sight_of}
 use Rattle.pts_code.specs.Outcomes.{from_left}
 use Rattle.pts_code.proofs.Calls.{given_by, function_at, no_function, called, call_threw, not_called}
 use Rattle.pts_code.proofs.Chains.{from_left_threw}
@@ -54,7 +54,7 @@ eval-returns-in-Call t c =
     let frame = c.args.frame.now in
     c.eval_call.ensures
     ∙ ap (λ xs. call (functions_of frame.codes.now) c.in-Call.function (map (given frame) xs)) c.as_slice.ensures
-    ∙ sym (ap (given frame) c.in-Call.is ∙ gives-Call (functions_of frame.codes.now) frame.values.now c.in-Call.function c.in-Call.arguments)
+    ∙ sym (ap (given frame) c.in-Call.is ∙ gives-Call (sight_of frame) c.in-Call.function c.in-Call.arguments)
 
 pub eval_call-returns-then-function-frame : goal.eval_call-returns-then-function-frame
 eval_call-returns-then-function-frame t c =
@@ -92,7 +92,7 @@ eval_call-returns t c =
     let code = get_or codes n c.index-frame-function.result in
     let earlier = functions_of (take n codes) in
     c.eval.ensures
-    ∙ ap (λ values. gives earlier values code) c.as_slice.ensures.value
+    ∙ ap (λ values. gives (body_sight earlier values) code) c.as_slice.ensures.value
     ∙ sym (called xs (slice_get (functions_of codes) n) (given_by earlier code) c.push_values.new.values.items
     (function_at codes n c.index-frame-function.result (omega (arith, c.if-function-frame.false)))
     (omega (arith, c.if-arguments-gt8.false, length-map c.args.arguments.now (given frame)))

@@ -1,6 +1,6 @@
 use Rattle.std.proofs.Common.{rules, ◌≡◌, ◌<◌, length, get_or, take, ap, ◌∙◌, arith}
 use Rattle.std.proofs.lemmas.List.{length-take-le}
-use Rattle.pts_code.specs.Codes.{gives, functions_of}
+use Rattle.pts_code.specs.Codes.{body_sight, gives, functions_of}
 use Rattle.pts_code.specs.Functions.{outcome_of}
 use Rattle.pts_code.proofs.Calls.{given_by, function_at}
 use Rattle.pts_code.proofs.Scopes.{codes_length, outcome_at}
@@ -36,7 +36,7 @@ returns c =
     let view : functions ≡ c.args.self.now = c.self.view_is in
     let within : n < length codes = omega (arith, c.requires, ap length view, codes_length functions codes scope c.self.invariant) in
     c.eval.ensures
-    ∙ ap (gives (functions_of (take n c.as_slice-codes.result.now)) arguments) c.index-codes-function.is
-    ∙ ap (λ all. gives (functions_of (take n all)) arguments (get_or all n item)) c.as_slice-codes.ensures.value
+    ∙ ap (gives (body_sight (functions_of (take n c.as_slice-codes.result.now)) arguments)) c.index-codes-function.is
+    ∙ ap (λ all. gives (body_sight (functions_of (take n all)) arguments) (get_or all n item)) c.as_slice-codes.ensures.value
     ∙ outcome_at functions codes scope n arguments (given_by (functions_of (take n codes)) (get_or codes n item)) c.self.invariant (function_at codes n item within)
     ∙ ap (λ fs. outcome_of fs n arguments) view
