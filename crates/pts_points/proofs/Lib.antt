@@ -1,10 +1,4 @@
-pub mod Clamping
-pub mod Counting
-pub mod Interiors
-pub mod Lengths
-pub mod Ranges
+pub mod Each
 pub mod ReadForms
-pub mod SoundItems
 pub mod StatementForms
-pub mod TaskForms
-pub mod Turns
+pub mod Standing

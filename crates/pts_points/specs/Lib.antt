@@ -1,2 +1,5 @@
 pub mod Inside
+pub mod Lines
+pub mod Pieces
 pub mod Points
+pub mod Standings

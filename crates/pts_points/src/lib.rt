@@ -1,14 +1,7 @@
 //! The points at which a checked program touches its arrays, and its calls.
 #![tactic(auto)]
 
-mod calls;
-mod course;
-mod items;
-mod numbers;
 mod point;
-mod reads;
-mod statements;
-mod walk;
+mod space;
 
-pub use items::add_points;
 pub use point::{Branch, CallInfo, PointForm, PointInfo};

@@ -1,0 +1,45 @@
+-- Where points stand: behind their tests, behind the `let`s that they may use, and behind their Reads.
+use Rattle.std.specs.Prelude.{◌≡◌, ℕ, ◌+◌, ◌<◌, ◌≤◌, Option, Some, None, List, [], ◌∷◌, slice_get, All, ⊤}
+use Rattle.pts_rules.specs.Counts.{reads}
+use Rattle.pts_points.specs.declared.point.Branch.{Branch}
+use Rattle.pts_points.specs.Pieces.{LetPoint, Computation, Index, Along, Computed, Deed, Reads, Assigns, Updates, Notes, Tests, Gives, Point}
+
+-- the tests ascend, none is below the first number, and each is below the last one
+abbrev pub Ascends : ℕ → List Branch → ℕ → Type 0
+Ascends low [] n = low ≤ n
+Ascends low (b ∷ bs) n = (low ≤ b.test) × Ascends (b.test + 1) bs n
+
+-- a `let` whose value is noted at a point before this number
+abbrev pub IsNotedBefore : ℕ → LetPoint → Type 0
+IsNotedBefore n x = x.point < n
+
+-- the Reads of an expression end directly before this number
+abbrev pub Ends : Computation → ℕ → Type 0
+Ends x n = x.first + reads x.expr ≡ n
+
+-- likewise those of an index that is computed
+abbrev pub IndexEnds : Index → ℕ → Type 0
+IndexEnds (Along line) n = ⊤
+IndexEnds (Computed x) n = Ends x n
+
+-- the Reads of what is done at a point of this number end directly before it; those of a place end before those of its value
+abbrev pub ReadsEnd : Deed → ℕ → Type 0
+ReadsEnd (Reads array index) n = IndexEnds index n
+ReadsEnd (Assigns array index x) n = IndexEnds index x.first × Ends x n
+ReadsEnd (Updates array index op x) n = IndexEnds index x.first × Ends x n
+ReadsEnd (Notes x) n = Ends x n
+ReadsEnd (Tests x) n = Ends x n
+ReadsEnd (Gives view x) n = Ends x n
+ReadsEnd _ n = ⊤
+
+-- a point stands behind all that it needs
+pub record StandsBehind (x : Point) : Type 0 where
+  pub tests : Ascends 0 x.context.branches x.number
+  pub lets : All (IsNotedBefore x.number) x.context.lets
+  pub reads : ReadsEnd x.deed x.number
+
+-- what stands between two points of one `off` has it too
+abbrev pub AreTogether : List Point → Type 0
+AreTogether points =
+    (i j k : ℕ) (x y z : Point) (off : ℕ) → i < j → j < k → slice_get points i ≡ Some x → slice_get points j ≡ Some y → slice_get points k ≡ Some z
+    → x.context.off ≡ Some off → z.context.off ≡ Some off → y.context.off ≡ Some off
