@@ -2,3 +2,5 @@ pub mod Each
 pub mod ReadForms
 pub mod StatementForms
 pub mod Standing
+pub mod Wholes
+pub mod ItemPoints

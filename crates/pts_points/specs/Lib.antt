@@ -1,3 +1,4 @@
+pub mod Fits
 pub mod Inside
 pub mod Lines
 pub mod Pieces

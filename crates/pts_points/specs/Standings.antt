@@ -1,8 +1,9 @@
 -- Where points stand: behind their tests, behind the `let`s that they may use, and behind their Reads.
-use Rattle.std.specs.Prelude.{◌≡◌, ℕ, ◌+◌, ◌<◌, ◌≤◌, Option, Some, None, List, [], ◌∷◌, slice_get, All, ⊤}
+use Rattle.std.specs.Prelude.{◌≡◌, ℕ, ◌+◌, ◌<◌, ◌≤◌, Option, Some, None, List, [], ◌∷◌, slice_get, All, pos, ⊤}
+use Rattle.pts_affine.specs.declared.line.Line.{Line}
 use Rattle.pts_rules.specs.Counts.{reads}
 use Rattle.pts_points.specs.declared.point.Branch.{Branch}
-use Rattle.pts_points.specs.Pieces.{LetPoint, Computation, Index, Along, Computed, Deed, Reads, Assigns, Updates, Notes, Tests, Gives, Point}
+use Rattle.pts_points.specs.Pieces.{LetPoint, Computation, Index, Along, Computed, Deed, Reads, Assigns, Updates, Notes, Tests, Gives, LivesOut, Answers, Point}
 
 -- the tests ascend, none is below the first number, and each is below the last one
 abbrev pub Ascends : ℕ → List Branch → ℕ → Type 0
@@ -31,6 +32,16 @@ ReadsEnd (Notes x) n = Ends x n
 ReadsEnd (Tests x) n = Ends x n
 ReadsEnd (Gives view x) n = Ends x n
 ReadsEnd _ n = ⊤
+
+-- one cell, the same at each position
+abbrev pub IsCell : Line → Type 0
+IsCell line = (line.c ≡ pos 0) × (line.n ≡ 1)
+
+-- what a clause, or the answer of a call, is written to is one cell
+abbrev pub IsOneCell : Deed → Type 0
+IsOneCell (LivesOut array line) = IsCell line
+IsOneCell (Answers array line) = IsCell line
+IsOneCell _ = ⊤
 
 -- a point stands behind all that it needs
 pub record StandsBehind (x : Point) : Type 0 where

@@ -1,7 +1,9 @@
 //! The points at which a checked program touches its arrays, and its calls.
 #![tactic(auto)]
 
+mod laws;
 mod point;
 mod space;
 
+pub use laws::{clauses_and_answers_have_one_cell, numbers_are_places, offs_stand_together, points_stand_behind_what_they_need};
 pub use point::{Branch, CallInfo, PointForm, PointInfo};

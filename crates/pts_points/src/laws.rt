@@ -1,0 +1,33 @@
+//! What holds of the points of every item.
+
+ghost use Rattle.std.specs.Prelude.{◌≡◌, ℕ, ◌+◌, ◌<◌, ◌≤◌, ◌↔◌, Some, slice_get, length};
+ghost use Rattle.pts_tree.specs.declared.script.Item.{Item};
+ghost use Rattle.pts_rules.specs.Known.{Scope};
+ghost use Rattle.pts_points.specs.declared.point.PointForm.TheVariants as forms;
+ghost use Rattle.pts_points.specs.declared.point.PointInfo.{PointInfo};
+ghost use Rattle.pts_points.specs.Pieces.{Point};
+ghost use Rattle.pts_points.specs.Points.{item_points, points_of};
+ghost use Rattle.pts_points.specs.Standings.{Ascends, IsCell, StandsBehind, AreTogether};
+
+/// The number of a point is its place in the list of its item.
+pub fn numbers_are_places()
+    ensures { (scope : Scope) (item earlier : ℕ) (x : Item) (k : ℕ) (y : PointInfo) → slice_get (points_of scope item earlier x) k ≡ Some y → y.number ≡ k }
+{}
+
+/// The tests that a point stands under ascend and stand before it. Each `let` that it may use was noted before it, and the
+/// Reads of what it computes end directly before it.
+pub fn points_stand_behind_what_they_need()
+    ensures all { (scope : Scope) (earlier : ℕ) (x : Item) (k : ℕ) (p : Point) → slice_get (item_points scope earlier x) k ≡ Some p → StandsBehind p }
+    ensures shown { (scope : Scope) (item earlier : ℕ) (x : Item) (k : ℕ) (y : PointInfo) → slice_get (points_of scope item earlier x) k ≡ Some y → Ascends 0 y.branches y.number }
+{}
+
+/// What stands between two points of one `off` has it too.
+pub fn offs_stand_together()
+    ensures { (scope : Scope) (earlier : ℕ) (x : Item) → AreTogether (item_points scope earlier x) }
+{}
+
+/// The cell of a clause, and that of a call's answer, is one cell and the same at every position.
+pub fn clauses_and_answers_have_one_cell()
+    ensures clauses { (scope : Scope) (item earlier : ℕ) (x : Item) (k : ℕ) (y : PointInfo) → slice_get (points_of scope item earlier x) k ≡ Some y → y.form ≡ forms.LiveOut → IsCell y.line }
+    ensures answers { (scope : Scope) (item earlier : ℕ) (x : Item) (k : ℕ) (y : PointInfo) → slice_get (points_of scope item earlier x) k ≡ Some y → y.form ≡ forms.Into → IsCell y.line }
+{}
