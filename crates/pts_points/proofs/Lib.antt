@@ -4,3 +4,4 @@ pub mod StatementForms
 pub mod Standing
 pub mod Wholes
 pub mod ItemPoints
+pub mod Builds

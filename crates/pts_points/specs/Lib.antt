@@ -1,6 +1,8 @@
+pub mod Building
 pub mod Fits
 pub mod Inside
 pub mod Lines
 pub mod Pieces
 pub mod Points
 pub mod Standings
+pub mod Widths

@@ -1,5 +1,5 @@
 -- The points and calls of an item, in text order.
-use Rattle.std.specs.Prelude.{ℕ, ◌+◌, ◌-◌, ◌^◌, min, true, unwrap_or, Option, Some, None, List, [], ◌∷◌, ◌++◌, map}
+use Rattle.std.specs.Prelude.{ℕ, ◌+◌, true, unwrap_or, Option, Some, None, List, [], ◌∷◌, ◌++◌, map}
 use Rattle.pts_types.specs.declared.value.Kind.{Kind}
 use Rattle.pts_types.specs.declared.value.Kind.TheVariants as kinds
 use Rattle.pts_types.specs.declared.operation.Policy.{Policy}
@@ -37,10 +37,6 @@ use Rattle.pts_points.specs.declared.space.IterationSpace.{IterationSpace}
 use Rattle.pts_points.specs.Lines as lines
 use Rattle.pts_points.specs.Lines.{no_line, line_of_range, line_of_cell, space_of, no_loop}
 use Rattle.pts_points.specs.Pieces.{Context, Computation, Index, Along, Computed, Deed, Reads, Assigns, Updates, Notes, Tests, Gives, Fills, LivesOut, Answers, Point, Piece, names_in, nothing, behind, sequence, sequence_of, served, alone, served_off, off_vector, binding, branching}
-
--- in 32 bits
-abbrev pub small : ℕ → ℕ
-small n = min n (2 ^ 32 - 1)
 
 abbrev pub array_at : Scope → Name → ℕ
 array_at = lines.array_at

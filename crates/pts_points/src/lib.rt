@@ -1,7 +1,9 @@
 //! The points at which a checked program touches its arrays, and its calls.
 #![tactic(auto)]
 
+mod builder;
 mod laws;
+mod numbers;
 mod point;
 mod space;
 

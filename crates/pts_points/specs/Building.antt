@@ -1,0 +1,138 @@
+-- What the code that makes the points of an item holds, for the contracts of its parts alone: points in the widths that
+-- lists keep. The numbers of a sound item are within these widths, so that nothing of it is cut.
+use Rattle.std.specs.Prelude.{◌≡◌, ℕ, ◌+◌, ◌<◌, ◌^◌, ◌≤ℤ◌, unwrap_or, Option, Some, None, List, [], ◌∷◌, ◌++◌, length, map}
+use Rattle.pts_types.specs.Arithmetic.{least_i64, greatest_i64}
+use Rattle.pts_affine.specs.declared.line.Line.{Line}
+use Rattle.pts_tree.specs.declared.loops.Loop as loops
+use Rattle.pts_rules.specs.Known.{Scope}
+use Rattle.pts_rules.specs.Parts.{Simple, Throw, Assign, Call, Loop}
+use Rattle.pts_points.specs.declared.point.PointForm.{PointForm}
+use Rattle.pts_points.specs.declared.point.Branch.{Branch}
+use Rattle.pts_points.specs.declared.point.PointInfo.{PointInfo}
+use Rattle.pts_points.specs.declared.point.CallInfo.{CallInfo}
+use Rattle.pts_points.specs.declared.space.IterationSpace.{IterationSpace}
+use Rattle.pts_points.specs.declared.builder.Test.{Test}
+use Rattle.pts_points.specs.declared.builder.Builder.{Builder}
+use Rattle.pts_points.specs.Lines.{space_of, no_loop}
+use Rattle.pts_points.specs.Pieces.{LetPoint, Context, Deed, Point, Piece, taken, under}
+use Rattle.pts_points.specs.Points.{form_of, array_of, line_of_deed, points_from, calls_from}
+use Rattle.pts_points.specs.Fits.{offs_among, calls_among}
+use Rattle.pts_points.specs.Widths.{small, clamp}
+
+-- ---- what is kept
+
+abbrev pub kept_line : Line → Line
+kept_line line = record { c = clamp line.c; d = clamp line.d; n = small line.n }
+
+abbrev pub kept_branch : Branch → Branch
+kept_branch x = record { test = small x.test; taken = x.taken }
+
+abbrev pub kept_info : ℕ → Point → PointInfo
+kept_info item x =
+    record {
+      item = item;
+      number = small x.number;
+      call = x.context.call;
+      form = form_of x.deed;
+      array = small (array_of x.deed);
+      line = kept_line (line_of_deed x.deed);
+      branches = map kept_branch x.context.branches;
+      off = x.context.off;
+    }
+
+abbrev pub kept_call : CallInfo → CallInfo
+kept_call x = record { item = x.item; policy = x.policy; positions = small x.positions; first_point = small x.first_point; points = small x.points }
+
+-- ---- pieces
+
+-- a side of a test
+abbrev pub branch_of : Test → Branch
+branch_of x = record { test = x.number; taken = x.taken }
+
+-- where the next point stands; the names in scope are not held
+abbrev pub context_at : Builder → Scope → List LetPoint → Context
+context_at b head lets = record { call = b.call; branches = map branch_of b.branches; off = b.off; head = head; lets = lets }
+
+-- the points of a piece behind those before it
+abbrev pub with_points : Builder → Context → Piece → Builder
+with_points b context x =
+    record b { points = b.points ++ map (kept_info b.item) (x.points context (length b.points) b.offs); offs = taken b.off x.offs b.offs }
+
+-- a piece more, whatever the names in scope are
+pub record Adds (old new : Builder) (x : Piece) : Type 0 where
+  pub added : (head : Scope) (lets : List LetPoint) → new ≡ with_points old (context_at old head lets) x
+
+-- a piece more, under a side of a test
+pub record AddsUnder (test : Test) (old new : Builder) (x : Piece) : Type 0 where
+  pub added : (head : Scope) (lets : List LetPoint) → new ≡ with_points old (under test.number test.taken (context_at old head lets)) x
+
+-- the numbers of `off` of a piece have 32 bits
+abbrev pub HasOffs : Builder → Piece → Type 0
+HasOffs b x = taken b.off x.offs b.offs < 2 ^ 32
+
+-- one point more
+abbrev pub pushed : Builder → PointForm → ℕ → Line → Builder
+pushed b form array line =
+    record b {
+      points =
+          b.points
+          ++ record {
+            item = b.item;
+            number = small (length b.points);
+            call = b.call;
+            form = form;
+            array = array;
+            line = line;
+            branches = map (λ x. kept_branch (branch_of x)) b.branches;
+            off = b.off;
+          } ∷ [];
+    }
+
+-- off the vector
+abbrev pub off_builder : Builder → Builder
+off_builder b = record b { off = Some (unwrap_or b.off b.offs) }
+
+-- back from off the vector
+abbrev pub back_on : Option ℕ → Builder → Builder
+back_on off b = record b { off = off; offs = taken off 1 b.offs }
+
+-- ---- statements
+
+-- nothing stands around the next statement
+pub record IsIdle (b : Builder) : Type 0 where
+  pub call : b.call ≡ None
+  pub branches : b.branches ≡ []
+  pub off : b.off ≡ None
+  pub space : b.space ≡ no_loop
+
+-- statements more
+abbrev pub with_statements : Scope → Builder → List Simple → Builder
+with_statements scope b xs =
+    record b {
+      points = b.points ++ map (kept_info b.item) (points_from scope (length b.points) b.offs (b.earlier + length b.calls) xs);
+      calls = b.calls ++ map kept_call (calls_from scope b.item (length b.points) xs);
+      offs = b.offs + offs_among scope xs;
+    }
+
+-- the numbers that the index of a loop takes are kept as they are
+pub record IsKept (space : IterationSpace) : Type 0 where
+  pub first_low : least_i64 ≤ℤ space.first
+  pub first_high : space.first ≤ℤ greatest_i64
+  pub step_low : least_i64 ≤ℤ space.step
+  pub step_high : space.step ≤ℤ greatest_i64
+  pub positions : space.positions < 2 ^ 32
+
+abbrev pub IsKeptIn : Scope → Simple → Type 0
+IsKeptIn scope (Loop x) = IsKept (space_of scope x)
+IsKeptIn scope x = Unit {0}
+
+abbrev pub AreKept : Scope → List Simple → Type 0
+AreKept scope [] = Unit {0}
+AreKept scope (x ∷ xs) = IsKeptIn scope x × AreKept scope xs
+
+-- statements whose numbers of `off` and calls have 32 bits behind those before them
+pub record HasRoomFor (scope : Scope) (b : Builder) (xs : List Simple) : Type 0 where
+  pub idle : IsIdle b
+  pub kept : AreKept scope xs
+  pub offs : b.offs + offs_among scope xs < 2 ^ 32
+  pub calls : b.earlier + length b.calls + calls_among xs < 2 ^ 32
