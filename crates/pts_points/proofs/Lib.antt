@@ -5,3 +5,5 @@ pub mod Standing
 pub mod Wholes
 pub mod ItemPoints
 pub mod Builds
+pub mod Ranges
+pub mod Clamping

@@ -1,10 +1,12 @@
 -- What the code that makes the points of an item holds, for the contracts of its parts alone: points in the widths that
 -- lists keep. The numbers of a sound item are within these widths, so that nothing of it is cut.
-use Rattle.std.specs.Prelude.{◌≡◌, ℕ, ◌+◌, ◌<◌, ◌^◌, ◌≤ℤ◌, unwrap_or, Option, Some, None, List, [], ◌∷◌, ◌++◌, length, map}
+use Rattle.std.specs.Prelude.{◌≡◌, ℕ, ◌+◌, ◌<◌, ◌^◌, ◌≤ℤ◌, unwrap_or, Option, Some, None, List, [], ◌∷◌, ◌++◌, length, map, ℤ, pos}
 use Rattle.pts_types.specs.Arithmetic.{least_i64, greatest_i64}
 use Rattle.pts_affine.specs.declared.line.Line.{Line}
 use Rattle.pts_tree.specs.declared.loops.Loop as loops
+use Rattle.pts_tree.specs.declared.expr.Expr.{Expr}
 use Rattle.pts_rules.specs.Known.{Scope}
+use Rattle.pts_rules.specs.Indices.{affine_of, line_of}
 use Rattle.pts_rules.specs.Parts.{Simple, Throw, Assign, Call, Loop}
 use Rattle.pts_points.specs.declared.point.PointForm.{PointForm}
 use Rattle.pts_points.specs.declared.point.Branch.{Branch}
@@ -13,7 +15,7 @@ use Rattle.pts_points.specs.declared.point.CallInfo.{CallInfo}
 use Rattle.pts_points.specs.declared.space.IterationSpace.{IterationSpace}
 use Rattle.pts_points.specs.declared.builder.Test.{Test}
 use Rattle.pts_points.specs.declared.builder.Builder.{Builder}
-use Rattle.pts_points.specs.Lines.{space_of, no_loop}
+use Rattle.pts_points.specs.Lines.{space_of, no_line, no_loop}
 use Rattle.pts_points.specs.Pieces.{LetPoint, Context, Deed, Point, Piece, taken, under}
 use Rattle.pts_points.specs.Points.{form_of, array_of, line_of_deed, points_from, calls_from}
 use Rattle.pts_points.specs.Fits.{offs_among, calls_among}
@@ -42,6 +44,20 @@ kept_info item x =
 
 abbrev pub kept_call : CallInfo → CallInfo
 kept_call x = record { item = x.item; policy = x.policy; positions = small x.positions; first_point = small x.first_point; points = small x.points }
+
+-- the cells of an index, or none where it is no line
+abbrev pub line_along : IterationSpace → ℤ → ℤ → Line
+line_along space factor offset = line_of space.first space.step space.positions (record { factor = factor; offset = offset })
+
+abbrev pub slope : IterationSpace → ℤ → ℤ
+slope space factor = (line_along space factor (pos 0)).c
+
+abbrev pub start : IterationSpace → ℤ → ℤ → ℤ
+start space factor offset = (line_along space factor offset).d
+
+abbrev pub line_of_index : Scope → IterationSpace → Expr → Line
+line_of_index scope space x =
+    elim (affine_of scope space.index x) [ None ↦ no_line | Some affine ↦ line_along space affine.factor affine.offset ]
 
 -- ---- pieces
 
@@ -120,7 +136,6 @@ pub record IsKept (space : IterationSpace) : Type 0 where
   pub first_high : space.first ≤ℤ greatest_i64
   pub step_low : least_i64 ≤ℤ space.step
   pub step_high : space.step ≤ℤ greatest_i64
-  pub positions : space.positions < 2 ^ 32
 
 abbrev pub IsKeptIn : Scope → Simple → Type 0
 IsKeptIn scope (Loop x) = IsKept (space_of scope x)

@@ -3,6 +3,7 @@
 
 mod builder;
 mod laws;
+mod lines;
 mod numbers;
 mod point;
 mod space;

@@ -1,7 +1,6 @@
 //! Numbers in the widths that lists keep.
 
 ghost use Rattle.std.specs.Prelude.{◌≡◌, ◌+◌, ◌-◌, ◌/◌, ◌<◌, ◌≤◌, ◌^◌, ◌*ℤ◌, nat_abs};
-ghost use Rattle.pts_rules.specs.Known as known;
 ghost use Rattle.pts_points.specs.Widths as spec;
 
 /// In 32 bits: the nearest number.
@@ -26,13 +25,6 @@ pub fn clamp(z: i128) -> i64
     } else {
         z as i64
     }
-}
-
-/// A number that is not below 0.
-pub fn natural(z: i128) -> u128
-    ensures { result ≡ known.natural z }
-{
-    if z < 0 { 0 } else { z as u128 }
 }
 
 /// The exact product.
