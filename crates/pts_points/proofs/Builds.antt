@@ -19,7 +19,7 @@ use Rattle.pts_points.proofs.ItemPoints.{length_is}
 
 -- ---- lists
 
-append_nothing : {A : Type 0} (xs : List A) → xs ++ [] ≡ xs
+pub append_nothing : {A : Type 0} (xs : List A) → xs ++ [] ≡ xs
 append_nothing [] = refl
 append_nothing (x ∷ xs) = ap (λ ys. x ∷ ys) (append_nothing xs)
 
@@ -37,7 +37,7 @@ map_twice g f (x ∷ xs) = ap (λ zs. g (f x) ∷ zs) (map_twice g f xs)
 
 -- ---- numbers of `off`
 
-taken_nothing : (o : Option ℕ) (m : ℕ) → taken o 0 m ≡ m
+pub taken_nothing : (o : Option ℕ) (m : ℕ) → taken o 0 m ≡ m
 taken_nothing None m = omega arith
 taken_nothing (Some d) m = refl
 

@@ -7,3 +7,5 @@ pub mod ItemPoints
 pub mod Builds
 pub mod Ranges
 pub mod Clamping
+pub mod Turns
+pub mod ReadTurns

@@ -7,7 +7,7 @@ use Rattle.pts_tree.specs.declared.loops.Loop as loops
 use Rattle.pts_tree.specs.declared.expr.Expr.{Expr}
 use Rattle.pts_rules.specs.Known.{Scope}
 use Rattle.pts_rules.specs.Indices.{affine_of, line_of}
-use Rattle.pts_rules.specs.Parts.{Simple, Throw, Assign, Call, Loop}
+use Rattle.pts_rules.specs.Parts.{Name, Simple, Throw, Assign, Call, Loop}
 use Rattle.pts_points.specs.declared.point.PointForm.{PointForm}
 use Rattle.pts_points.specs.declared.point.Branch.{Branch}
 use Rattle.pts_points.specs.declared.point.PointInfo.{PointInfo}
@@ -16,8 +16,8 @@ use Rattle.pts_points.specs.declared.space.IterationSpace.{IterationSpace}
 use Rattle.pts_points.specs.declared.builder.Test.{Test}
 use Rattle.pts_points.specs.declared.builder.Builder.{Builder}
 use Rattle.pts_points.specs.Lines.{space_of, no_line, no_loop}
-use Rattle.pts_points.specs.Pieces.{LetPoint, Context, Deed, Point, Piece, taken, under}
-use Rattle.pts_points.specs.Points.{form_of, array_of, line_of_deed, points_from, calls_from}
+use Rattle.pts_points.specs.Pieces.{LetPoint, Context, Reads, Point, Piece, taken, served, under}
+use Rattle.pts_points.specs.Points.{array_at, reads_of, index_of, form_of, array_of, line_of_deed, points_from, calls_from}
 use Rattle.pts_points.specs.Fits.{offs_among, calls_among}
 use Rattle.pts_points.specs.Widths.{small, clamp}
 
@@ -81,6 +81,10 @@ pub record Adds (old new : Builder) (x : Piece) : Type 0 where
 -- a piece more, under a side of a test
 pub record AddsUnder (test : Test) (old new : Builder) (x : Piece) : Type 0 where
   pub added : (head : Scope) (lets : List LetPoint) → new ≡ with_points old (under test.number test.taken (context_at old head lets)) x
+
+-- a Read of an element behind the Reads of its index
+abbrev pub element_piece : Scope → IterationSpace → Name → Expr → Piece
+element_piece scope space name x = served (reads_of scope space x) (λ context n. Reads (array_at scope name) (index_of scope space x context n))
 
 -- the numbers of `off` of a piece have 32 bits
 abbrev pub HasOffs : Builder → Piece → Type 0

@@ -6,6 +6,7 @@ mod laws;
 mod lines;
 mod numbers;
 mod point;
+mod reads;
 mod space;
 
 pub use laws::{clauses_and_answers_have_one_cell, numbers_are_places, offs_stand_together, points_stand_behind_what_they_need};
