@@ -217,6 +217,12 @@ adds_under test b c d x h e =
           });
     }
 
+-- the same by the tests around the inner place and those around the outer one
+pub adds_branch : (test : Test) (b c : Builder) (x : Piece) (inner outer : List Test) → inner ≡ b.branches ++ test ∷ [] → outer ≡ b.branches
+    → Adds (record b { branches = inner }) c x → AddsUnder test b (record c { branches = outer }) x
+adds_branch test b c x inner outer is_inner is_outer h =
+    adds_under test b c (record c { branches = outer }) x (subst (λ ts. Adds (record b { branches = ts }) c x) is_inner h) (λ i. record c { branches = is_outer i })
+
 module _ (b : Builder) (x : Piece) (deed : Context → ℕ → Deed) (first second : Piece) (t : ℕ) where
   abbrev side_of : Bool → Test
   side_of taken = record { number = t; taken = taken }

@@ -9,3 +9,5 @@ pub mod Ranges
 pub mod Clamping
 pub mod Turns
 pub mod ReadTurns
+pub mod BodyTurns
+pub mod Weights

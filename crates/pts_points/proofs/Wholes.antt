@@ -24,7 +24,7 @@ use Rattle.pts_points.specs.Pieces.{Context, Along, Computed, Deed, Piece, nothi
 use Rattle.pts_points.specs.Points.{index_kind, index_of, reads_of, both_reads, assign_deed, update_deed, kind_of_let, stmt_piece, body_piece, live_out, initial_piece, clause_piece, loop_piece, source_piece, target_piece, answer_piece, piece_of, own_piece, call_piece, assign_piece, statement_piece}
 use Rattle.pts_points.specs.Standings.{IndexEnds}
 use Rattle.pts_points.proofs.ReadForms.{by_reads}
-use Rattle.pts_points.proofs.StatementForms.{by_stmts, by_bodies, note_deed, give_deed, test_deed}
+use Rattle.pts_points.proofs.StatementForms.{by_stmts, note_deed, give_deed, test_deed}
 use Rattle.pts_points.proofs.Standing.{AllEnd, Owes, Good, good_nothing, good_behind, good_served, good_served_off, good_off_vector, good_binding, good_branching}
 
 -- an expression has as many Reads as the rules count
@@ -60,7 +60,7 @@ module _ (scope : Scope) (space : IterationSpace) where
       (λ xs ys m n x y g h. good_behind x y g h)
       (λ name x g. good_served (reads_of scope space x) _ g (λ context n. (index_ends scope space x context n, tt)))
 
-  good_both : (at : Place) (x : Expr) → Good (both_reads scope space at x)
+  pub good_both : (at : Place) (x : Expr) → Good (both_reads scope space at x)
   good_both at x = good_behind (reads_of scope space at.index) (reads_of scope space x) (good_reads at.index) (good_reads x)
 
   both_end : (at : Place) (x : Expr) → AllEnd (both_reads scope space at x) (assign_deed scope space at x)
@@ -72,6 +72,9 @@ module _ (scope : Scope) (space : IterationSpace) where
 
   notes_good : (name : List ℕ) (x : Expr) → Good (binding name (kind_of_let x) (reads_of scope space x) (note_deed x))
   notes_good name x = good_binding name (kind_of_let x) (reads_of scope space x) (note_deed x) (good_reads x) (λ context n. (ends_here scope space x n, tt))
+
+  pub tests_good : (x : Expr) → Good (served (reads_of scope space x) (test_deed x))
+  tests_good x = good_served (reads_of scope space x) (test_deed x) (good_reads x) (λ context n. (ends_here scope space x n, tt))
 
   gives_good : (name : List ℕ) (x : Expr) → Good (served (reads_of scope space x) (give_deed name x))
   gives_good name x = good_served (reads_of scope space x) (give_deed name x) (good_reads x) (λ context n. (ends_here scope space x n, tt))
@@ -87,10 +90,14 @@ module _ (scope : Scope) (space : IterationSpace) where
       good_served_off (both_reads scope space at x) (update_deed scope space at op x) (good_both at x)
       (λ context n. ((index_ends scope space at.index context n, value_ends scope space at x n), tt))
 
-  pub good_body : (xs : List BodyStmt) → Good (body_piece scope space xs)
-  good_body =
-      by_bodies scope space IsGood good_nothing (λ xs ys m n x y g h. good_behind x y g h) assigns_good notes_good gives_good
+  pub good_stmt : (x : BodyStmt) → Good (stmt_piece scope space x)
+  good_stmt =
+      by_stmts scope space IsGood good_nothing (λ xs ys m n x y g h. good_behind x y g h) assigns_good notes_good gives_good
       (λ c xs ys m n x y g h. branches_good c x y g h) (λ xs n x g. good_off_vector x g) updates_good
+
+  pub good_body : (xs : List BodyStmt) → Good (body_piece scope space xs)
+  good_body [] = good_nothing
+  good_body (x ∷ xs) = good_behind (stmt_piece scope space x) (body_piece scope space xs) (good_stmt x) (good_body xs)
 
 -- ---- statements
 

@@ -3,12 +3,14 @@
 use Rattle.std.specs.Prelude.{◌≡◌, ℕ, ◌+◌, ◌<◌, ◌^◌, ◌≤ℤ◌, unwrap_or, Option, Some, None, List, [], ◌∷◌, ◌++◌, length, map, ℤ, pos}
 use Rattle.pts_types.specs.Arithmetic.{least_i64, greatest_i64}
 use Rattle.pts_affine.specs.declared.line.Line.{Line}
+use Rattle.pts_tree.specs.declared.expr.Place.{Place}
 use Rattle.pts_tree.specs.declared.loops.Loop as loops
 use Rattle.pts_tree.specs.declared.expr.Expr.{Expr}
 use Rattle.pts_rules.specs.Known.{Scope}
 use Rattle.pts_rules.specs.Indices.{affine_of, line_of}
 use Rattle.pts_rules.specs.Parts.{Name, Simple, Throw, Assign, Call, Loop}
 use Rattle.pts_points.specs.declared.point.PointForm.{PointForm}
+use Rattle.pts_points.specs.declared.point.PointForm.TheVariants.{Plain}
 use Rattle.pts_points.specs.declared.point.Branch.{Branch}
 use Rattle.pts_points.specs.declared.point.PointInfo.{PointInfo}
 use Rattle.pts_points.specs.declared.point.CallInfo.{CallInfo}
@@ -16,7 +18,7 @@ use Rattle.pts_points.specs.declared.space.IterationSpace.{IterationSpace}
 use Rattle.pts_points.specs.declared.builder.Test.{Test}
 use Rattle.pts_points.specs.declared.builder.Builder.{Builder}
 use Rattle.pts_points.specs.Lines.{space_of, no_line, no_loop}
-use Rattle.pts_points.specs.Pieces.{LetPoint, Context, Reads, Point, Piece, taken, served, under}
+use Rattle.pts_points.specs.Pieces.{LetPoint, Context, Deed, Reads, Point, Piece, taken, served, under}
 use Rattle.pts_points.specs.Points.{array_at, reads_of, index_of, form_of, array_of, line_of_deed, points_from, calls_from}
 use Rattle.pts_points.specs.Fits.{offs_among, calls_among}
 use Rattle.pts_points.specs.Widths.{small, clamp}
@@ -107,6 +109,20 @@ pushed b form array line =
             off = b.off;
           } ∷ [];
     }
+
+-- a point of a form at the cells of a place
+abbrev pub pushed_at : Scope → Builder → PointForm → Place → Builder
+pushed_at scope b form at = pushed b form (small (array_at scope at.array)) (kept_line (line_of_index scope b.space at.index))
+
+-- what touches nothing
+pub record IsPlain (deed : Context → ℕ → Deed) : Type 0 where
+  pub form : (context : Context) (n : ℕ) → form_of (deed context n) ≡ Plain
+  pub array : (context : Context) (n : ℕ) → array_of (deed context n) ≡ 0
+  pub line : (context : Context) (n : ℕ) → line_of_deed (deed context n) ≡ no_line
+
+-- Reads and a point that touches nothing, whatever is computed there
+pub record AddsPlain (old new : Builder) (x : Piece) : Type 0 where
+  pub added : (deed : Context → ℕ → Deed) → IsPlain deed → Adds old new (served x deed)
 
 -- off the vector
 abbrev pub off_builder : Builder → Builder
