@@ -11,3 +11,4 @@ pub mod Turns
 pub mod ReadTurns
 pub mod BodyTurns
 pub mod Weights
+pub mod CallTurns

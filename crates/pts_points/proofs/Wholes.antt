@@ -108,7 +108,7 @@ module _ (scope : Scope) where
   good_live_out : (x : Cell) → Good (live_out scope x)
   good_live_out x = good_alone _ (λ n. (tt, (refl, refl)))
 
-  good_clause : (x : Clause) → Good (clause_piece scope x)
+  pub good_clause : (x : Clause) → Good (clause_piece scope x)
   good_clause (clauses.Reduce x) = good_live_out x.cell
   good_clause (clauses.Induct x) = by_initial x.initial
     where
@@ -116,27 +116,27 @@ module _ (scope : Scope) where
       by_initial (initials.Val y) = good_nothing
       by_initial (initials.Cell y) = good_live_out y
 
-  good_clauses : (xs : List Clause) → Good (sequence (map (clause_piece scope) xs))
+  pub good_clauses : (xs : List Clause) → Good (sequence (map (clause_piece scope) xs))
   good_clauses [] = good_nothing
   good_clauses (x ∷ xs) = good_behind (clause_piece scope x) (sequence (map (clause_piece scope) xs)) (good_clause x) (good_clauses xs)
 
   pub good_loop : (x : loops.Loop) → Good (loop_piece scope x)
   good_loop x = good_behind (sequence (map (clause_piece scope) x.clauses)) (body_piece scope (space_of scope x) x.body) (good_clauses x.clauses) (good_body scope (space_of scope x) x.body)
 
-  good_source : (x : Range) → Good (source_piece scope x)
+  pub good_source : (x : Range) → Good (source_piece scope x)
   good_source x = good_alone _ (λ n. (tt, tt))
 
-  good_target : (x : Range) → Good (target_piece scope x)
+  pub good_target : (x : Range) → Good (target_piece scope x)
   good_target x = good_alone _ (λ n. (tt, tt))
 
-  good_answer : (x : Cell) → Good (answer_piece scope x)
+  pub good_answer : (x : Cell) → Good (answer_piece scope x)
   good_answer x = good_alone _ (λ n. (tt, (refl, refl)))
 
-  good_piece_of : {A : Type 0} (f : A → Piece) → ((x : A) → Good (f x)) → (x : Option A) → Good (piece_of f x)
+  pub good_piece_of : {A : Type 0} (f : A → Piece) → ((x : A) → Good (f x)) → (x : Option A) → Good (piece_of f x)
   good_piece_of f good None = good_nothing
   good_piece_of f good (Some x) = good x
 
-  good_own : (form : CallForm) (x : Range) → Good (own_piece scope form x)
+  pub good_own : (form : CallForm) (x : Range) → Good (own_piece scope form x)
   good_own forms.ForEach x = good_target x
   good_own forms.Transform x = good_nothing
   good_own forms.FindIf x = good_nothing

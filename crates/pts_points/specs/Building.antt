@@ -5,6 +5,8 @@ use Rattle.pts_types.specs.Arithmetic.{least_i64, greatest_i64}
 use Rattle.pts_affine.specs.declared.line.Line.{Line}
 use Rattle.pts_tree.specs.declared.expr.Place.{Place}
 use Rattle.pts_tree.specs.declared.loops.Loop as loops
+use Rattle.pts_tree.specs.declared.sum.Range.{Range}
+use Rattle.pts_tree.specs.declared.sum.Cell.{Cell}
 use Rattle.pts_tree.specs.declared.expr.Expr.{Expr}
 use Rattle.pts_rules.specs.Known.{Scope}
 use Rattle.pts_rules.specs.Indices.{affine_of, line_of}
@@ -17,7 +19,7 @@ use Rattle.pts_points.specs.declared.point.CallInfo.{CallInfo}
 use Rattle.pts_points.specs.declared.space.IterationSpace.{IterationSpace}
 use Rattle.pts_points.specs.declared.builder.Test.{Test}
 use Rattle.pts_points.specs.declared.builder.Builder.{Builder}
-use Rattle.pts_points.specs.Lines.{space_of, no_line, no_loop}
+use Rattle.pts_points.specs.Lines.{line_of_range, line_of_cell, space_of, no_line, no_loop}
 use Rattle.pts_points.specs.Pieces.{LetPoint, Context, Deed, Reads, Point, Piece, taken, served, under}
 use Rattle.pts_points.specs.Points.{array_at, reads_of, index_of, form_of, array_of, line_of_deed, points_from, calls_from}
 use Rattle.pts_points.specs.Fits.{offs_among, calls_among}
@@ -113,6 +115,13 @@ pushed b form array line =
 -- a point of a form at the cells of a place
 abbrev pub pushed_at : Scope → Builder → PointForm → Place → Builder
 pushed_at scope b form at = pushed b form (small (array_at scope at.array)) (kept_line (line_of_index scope b.space at.index))
+
+-- a point of a form at the cells of a range, and at a single cell
+abbrev pub pushed_range : Scope → Builder → PointForm → Range → Builder
+pushed_range scope b form x = pushed b form (small (array_at scope x.array)) (kept_line (line_of_range scope x))
+
+abbrev pub pushed_cell : Scope → Builder → PointForm → Cell → Builder
+pushed_cell scope b form x = pushed b form (small (array_at scope x.array)) (kept_line (line_of_cell scope x))
 
 -- what touches nothing
 pub record IsPlain (deed : Context → ℕ → Deed) : Type 0 where

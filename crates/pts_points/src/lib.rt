@@ -2,6 +2,7 @@
 #![tactic(auto)]
 
 mod builder;
+mod calls;
 mod laws;
 mod lines;
 mod numbers;
