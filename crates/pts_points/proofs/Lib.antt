@@ -12,3 +12,5 @@ pub mod ReadTurns
 pub mod BodyTurns
 pub mod Weights
 pub mod CallTurns
+pub mod StatementTurns
+pub mod TaskTurns

@@ -1,6 +1,7 @@
 -- What the code that makes the points of an item holds, for the contracts of its parts alone: points in the widths that
 -- lists keep. The numbers of a sound item are within these widths, so that nothing of it is cut.
-use Rattle.std.specs.Prelude.{◌≡◌, ℕ, ◌+◌, ◌<◌, ◌^◌, ◌≤ℤ◌, unwrap_or, Option, Some, None, List, [], ◌∷◌, ◌++◌, length, map, ℤ, pos}
+use Rattle.std.specs.Prelude.{◌≡◌, ℕ, ◌+◌, ◌-◌, ◌<◌, ◌^◌, ◌≤ℤ◌, unwrap_or, Option, Some, None, List, [], ◌∷◌, ◌++◌, length, map, flat_map, ℤ, pos}
+use Rattle.pts_types.specs.declared.operation.Policy.{Policy}
 use Rattle.pts_types.specs.Arithmetic.{least_i64, greatest_i64}
 use Rattle.pts_affine.specs.declared.line.Line.{Line}
 use Rattle.pts_tree.specs.declared.expr.Place.{Place}
@@ -8,9 +9,11 @@ use Rattle.pts_tree.specs.declared.loops.Loop as loops
 use Rattle.pts_tree.specs.declared.sum.Range.{Range}
 use Rattle.pts_tree.specs.declared.sum.Cell.{Cell}
 use Rattle.pts_tree.specs.declared.expr.Expr.{Expr}
+use Rattle.pts_tree.specs.declared.block.TaskStmt.{TaskStmt}
+use Rattle.pts_tree.specs.declared.block.TaskStmt.TheFolds.{fold-TaskStmt}
 use Rattle.pts_rules.specs.Known.{Scope}
 use Rattle.pts_rules.specs.Indices.{affine_of, line_of}
-use Rattle.pts_rules.specs.Parts.{Name, Simple, Throw, Assign, Call, Loop}
+use Rattle.pts_rules.specs.Parts.{Name, Simple, Throw, Assign, Call, Loop, simple_step}
 use Rattle.pts_points.specs.declared.point.PointForm.{PointForm}
 use Rattle.pts_points.specs.declared.point.PointForm.TheVariants.{Plain}
 use Rattle.pts_points.specs.declared.point.Branch.{Branch}
@@ -158,6 +161,26 @@ with_statements scope b xs =
       calls = b.calls ++ map kept_call (calls_from scope b.item (length b.points) xs);
       offs = b.offs + offs_among scope xs;
     }
+
+-- nothing of an item so far
+abbrev pub no_points : ℕ → ℕ → Builder
+no_points item earlier =
+    record { item = item; earlier = earlier; call = None; space = no_loop; branches = []; off = None; offs = 0; points = []; calls = [] }
+
+-- a call at its end
+abbrev pub ended : Builder → Policy → ℕ → ℕ → Builder
+ended b policy positions before =
+    record b {
+      call = None;
+      space = no_loop;
+      calls =
+          b.calls
+          ++ record { item = b.item; policy = policy; positions = positions; first_point = small before; points = small (length b.points - before) } ∷ [];
+    }
+
+-- the statements of one statement of a block
+unfoldable pub task_statements : TaskStmt → List Simple
+task_statements = fold-TaskStmt (List Simple) (List Simple) simple_step (λ x. flat_map (λ y. y) x.body)
 
 -- the numbers that the index of a loop takes are kept as they are
 pub record IsKept (space : IterationSpace) : Type 0 where

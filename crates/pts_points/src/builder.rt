@@ -35,6 +35,23 @@ pub struct Builder {
 }
 
 impl Builder {
+    /// Nothing of an item so far. The item has this number, and `earlier` calls stand before its own.
+    pub fn new(alloc: Global, item: u32, earlier: u32) -> Builder
+        ensures { result ≡ spec.no_points item earlier }
+    {
+        Builder {
+            item,
+            earlier,
+            call: None,
+            space: no_loop(),
+            branches: Items::new(alloc),
+            off: None,
+            offs: 0,
+            points: Items::new(alloc),
+            calls: Items::new(alloc),
+        }
+    }
+
     // The branches of the next point.
     fn branches_here(&self, alloc: Global) -> Result<Items<Branch>, AllocError>
         ensures { IfOk result (λ xs. xs ≡ map (λ x. spec.kept_branch (spec.branch_of x)) self.now.branches) }

@@ -3,6 +3,7 @@
 
 mod builder;
 mod calls;
+mod items;
 mod laws;
 mod lines;
 mod numbers;
