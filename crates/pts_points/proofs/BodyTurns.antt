@@ -182,7 +182,7 @@ module _ (scope : Scope) (b c : Builder) (x : BodyStmt) where
 
 -- an `if`: the test, one branch, and where there is one the other
 module _ (scope : Scope) (b c : Builder) (stmt : BodyStmt) (x : Expr) (xs zs : List BodyStmt) (ys : Option (List BodyStmt))
-  (is : stmt ≡ variants.If x xs ys) (same : zs ≡ xs) (tested : AddsPlain b c (reads_of scope b.space x)) where
+    (is : stmt ≡ variants.If x xs ys) (same : zs ≡ xs) (tested : AddsPlain b c (reads_of scope b.space x)) where
   abbrev own : Piece
   own = reads_of scope b.space x
 

@@ -15,7 +15,7 @@ use Rattle.pts_points.specs.Points.{form_of, array_of, line_of_deed}
 use Rattle.pts_points.specs.Widths.{small}
 use Rattle.pts_points.specs.Building.{kept_line, kept_branch, kept_info, branch_of, context_at, with_points, Adds, AddsUnder, pushed, off_builder, back_on}
 use Rattle.pts_points.proofs.Standing.{Good, good_nothing, good_served, AllEnd}
-use Rattle.pts_points.proofs.ItemPoints.{length_is}
+use Rattle.pts_points.proofs.PointLists.{length_is}
 
 -- ---- lists
 
@@ -146,9 +146,9 @@ kept_last b head lets deed form array line off n first s =
 served_added : (b : Builder) (head : Scope) (lets : List LetPoint) (x : Piece) (deed : Context → ℕ → Deed) (form : PointForm) (array : ℕ) (line : Line) (off : Option ℕ) (offs : ℕ)
     → Good x → IsShownAs deed form array line
     → (let first = with_points b (context_at b head lets) x in
-      record first { points = first.points ++ last b form array line off (length first.points) ∷ []; offs = offs })
+    record first { points = first.points ++ last b form array line off (length first.points) ∷ []; offs = offs })
     ≡ appending b (x.points (context_at b head lets) (length b.points) b.offs
-      ++ record { number = length b.points + x.size; context = record (context_at b head lets) { off = off }; deed = deed (context_at b head lets) (length b.points) } ∷ []) offs
+    ++ record { number = length b.points + x.size; context = record (context_at b head lets) { off = off }; deed = deed (context_at b head lets) (length b.points) } ∷ []) offs
 served_added b head lets x deed form array line off offs g s =
     let context = context_at b head lets in
     let first = with_points b context x in
@@ -230,7 +230,7 @@ module _ (b : Builder) (x : Piece) (deed : Context → ℕ → Deed) (first seco
   -- the points of both branches behind those of the test
   branches_added : (head : Scope) (lets : List LetPoint) → Good (served x deed) → Good first → t ≡ length b.points + x.size
       → (let context = context_at b head lets in
-        with_points (with_points (with_points b context (served x deed)) (under t true context) first) (under t false context) second)
+      with_points (with_points (with_points b context (served x deed)) (under t true context) first) (under t false context) second)
       ≡ with_points b (context_at b head lets) (branching x deed first second)
   branches_added head lets g f is =
       let context = context_at b head lets in

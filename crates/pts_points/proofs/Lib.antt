@@ -3,7 +3,7 @@ pub mod ReadForms
 pub mod StatementForms
 pub mod Standing
 pub mod Wholes
-pub mod ItemPoints
+pub mod PointLists
 pub mod Builds
 pub mod Ranges
 pub mod Clamping
@@ -14,3 +14,6 @@ pub mod Weights
 pub mod CallTurns
 pub mod StatementTurns
 pub mod TaskTurns
+pub mod Interiors
+pub mod SoundItems
+pub mod Exact

@@ -110,8 +110,8 @@ module _ (scope : Scope) (space : IterationSpace) where
   -- ---- what holds of nothing, of pieces behind each other and of each Read holds of the Reads of every expression, beside
   -- the elements that it reads and their number
   module _ (P : List Place → ℕ → Piece → Type 0) (none : P [] 0 nothing)
-    (more : (xs ys : List Place) (m n : ℕ) (x y : Piece) → P xs m x → P ys n y → P (xs ++ ys) (m + n) (behind x y))
-    (one : (name : List ℕ) (x : Expr) → P (elements x) (counts.reads x) (reads x)
+      (more : (xs ys : List Place) (m n : ℕ) (x y : Piece) → P xs m x → P ys n y → P (xs ++ ys) (m + n) (behind x y))
+      (one : (name : List ℕ) (x : Expr) → P (elements x) (counts.reads x) (reads x)
       → P (record { array = name; index = x } ∷ elements x) (1 + counts.reads x) (served (reads x) (read_deed name x))) where
     abbrev Holds : Expr → Type 0
     Holds x = P (elements x) (counts.reads x) (reads x)

@@ -27,9 +27,9 @@ use Rattle.pts_points.proofs.Turns.{same_space, adds_turn, adds_all}
 pub index_shown : (scope : Scope) (space : IterationSpace) (x : Expr) (context : Context) (n : ℕ) → line_at (index_of scope space x context n) ≡ line_of_index scope space x
 index_shown scope space x context n =
     elim (affine_of scope space.index x) as (λ o. line_at (elim o [
-        | None ↦ Computed (record { kind = index_kind context x; first = n; expr = x })
-        | Some affine ↦ Along (line_along space affine.factor affine.offset)
-      ]) ≡ elim o [ None ↦ no_line | Some affine ↦ line_along space affine.factor affine.offset ]) [ None ↦ refl | Some affine ↦ refl ]
+      | None ↦ Computed (record { kind = index_kind context x; first = n; expr = x })
+      | Some affine ↦ Along (line_along space affine.factor affine.offset)
+    ]) ≡ elim o [ None ↦ no_line | Some affine ↦ line_along space affine.factor affine.offset ]) [ None ↦ refl | Some affine ↦ refl ]
 
 -- how the index runs is the same behind a piece
 pub same_reads : (scope : Scope) (b c d : Builder) (x : Piece) (y : Expr) → Adds b c x → Adds c d (reads_of scope c.space y) → Adds c d (reads_of scope b.space y)

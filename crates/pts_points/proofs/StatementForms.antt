@@ -69,14 +69,14 @@ module _ (scope : Scope) (space : IterationSpace) where
 
   -- ---- what each form keeps holds of every statement, beside the places that it touches and the number of its points
   module _ (P : List Place → ℕ → Piece → Type 0) (none : P [] 0 nothing)
-    (more : (xs ys : List Place) (m n : ℕ) (x y : Piece) → P xs m x → P ys n y → P (xs ++ ys) (m + n) (behind x y))
-    (assigns : (at : Place) (x : Expr) → P ((at ∷ elements at.index) ++ elements x) (reads x + 1) (served (both_reads scope space at x) (assign_deed scope space at x)))
-    (notes : (name : List ℕ) (x : Expr) → P (elements x) (reads x + 1) (binding name (kind_of_let x) (reads_of scope space x) (note_deed x)))
-    (gives : (name : List ℕ) (x : Expr) → P (elements x) (reads x + 1) (served (reads_of scope space x) (give_deed name x)))
-    (branches : (c : Expr) (xs ys : List Place) (m n : ℕ) (x y : Piece) → P xs m x → P ys n y
+      (more : (xs ys : List Place) (m n : ℕ) (x y : Piece) → P xs m x → P ys n y → P (xs ++ ys) (m + n) (behind x y))
+      (assigns : (at : Place) (x : Expr) → P ((at ∷ elements at.index) ++ elements x) (reads x + 1) (served (both_reads scope space at x) (assign_deed scope space at x)))
+      (notes : (name : List ℕ) (x : Expr) → P (elements x) (reads x + 1) (binding name (kind_of_let x) (reads_of scope space x) (note_deed x)))
+      (gives : (name : List ℕ) (x : Expr) → P (elements x) (reads x + 1) (served (reads_of scope space x) (give_deed name x)))
+      (branches : (c : Expr) (xs ys : List Place) (m n : ℕ) (x y : Piece) → P xs m x → P ys n y
       → P (elements c ++ xs ++ ys) (reads c + 1 + m + n) (branching (reads_of scope space c) (test_deed c) x y))
-    (offs : (xs : List Place) (n : ℕ) (x : Piece) → P xs n x → P xs n (off_vector x))
-    (updates : (at : Place) (op : ScalarOp) (x : Expr)
+      (offs : (xs : List Place) (n : ℕ) (x : Piece) → P xs n x → P xs n (off_vector x))
+      (updates : (at : Place) (op : ScalarOp) (x : Expr)
       → P ((at ∷ elements at.index) ++ elements x) (reads x + 1) (served_off (both_reads scope space at x) (update_deed scope space at op x))) where
     abbrev Holds : BodyStmt → Type 0
     Holds x = P (places x) (body_points x) (piece x)

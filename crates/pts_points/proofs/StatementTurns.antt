@@ -21,7 +21,7 @@ use Rattle.pts_points.specs.Fits.{points_among, offs_among, calls_among}
 use Rattle.pts_points.specs.Building.{Adds, HasOffs, IsIdle, AreKept, HasRoomFor, branch_of, context_at, ended, kept_call, kept_info, kept_line, pushed_cell, with_points, with_statements}
 use Rattle.pts_points.proofs.Standing.{Good}
 use Rattle.pts_points.proofs.Wholes.{good_reads, good_statement}
-use Rattle.pts_points.proofs.ItemPoints.{numbered_from, length_is}
+use Rattle.pts_points.proofs.PointLists.{numbered_from, length_is}
 use Rattle.pts_points.proofs.Builds.{adds_served, append_nothing, map_both, map_length, more_length}
 
 -- ---- one statement
@@ -172,9 +172,9 @@ with_both scope b xs ys =
     })
     ∙ (λ i. record b {
       points = (append_assoc b.points (map (kept_info b.item) first) (map (kept_info b.item) (points_from scope (n + points_among scope xs) m (c + calls_among xs) ys))
-      ∙ ap (λ zs. b.points ++ zs) (sym (map_both (kept_info b.item) first (points_from scope (n + points_among scope xs) m (c + calls_among xs) ys)) ∙ ap (map (kept_info b.item)) (sym (points_both scope n b.offs c xs ys)))) i;
+          ∙ ap (λ zs. b.points ++ zs) (sym (map_both (kept_info b.item) first (points_from scope (n + points_among scope xs) m (c + calls_among xs) ys)) ∙ ap (map (kept_info b.item)) (sym (points_both scope n b.offs c xs ys)))) i;
       calls = (append_assoc b.calls (map kept_call called) (map kept_call (calls_from scope b.item (n + points_among scope xs) ys))
-      ∙ ap (λ zs. b.calls ++ zs) (sym (map_both kept_call called (calls_from scope b.item (n + points_among scope xs) ys)) ∙ ap (map kept_call) (sym (calls_both scope b.item n xs ys)))) i;
+          ∙ ap (λ zs. b.calls ++ zs) (sym (map_both kept_call called (calls_from scope b.item (n + points_among scope xs) ys)) ∙ ap (map kept_call) (sym (calls_both scope b.item n xs ys)))) i;
       offs = all_offs i;
     })
 

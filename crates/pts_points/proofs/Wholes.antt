@@ -43,9 +43,9 @@ pub index_ends : (scope : Scope) (space : IterationSpace) (x : Expr) (context : 
     → IndexEnds (index_of scope space x context n) (n + (reads_of scope space x).size)
 index_ends scope space x context n =
     elim (affine_of scope space.index x) as (λ o. IndexEnds (elim o [
-        | None ↦ Computed (record { kind = index_kind context x; first = n; expr = x })
-        | Some affine ↦ Along (line_of space.first space.step space.positions affine)
-      ]) (n + (reads_of scope space x).size)) [ None ↦ ends_here scope space x n | Some affine ↦ tt ]
+      | None ↦ Computed (record { kind = index_kind context x; first = n; expr = x })
+      | Some affine ↦ Along (line_of space.first space.step space.positions affine)
+    ]) (n + (reads_of scope space x).size)) [ None ↦ ends_here scope space x n | Some affine ↦ tt ]
 
 value_ends : (scope : Scope) (space : IterationSpace) (at : Place) (x : Expr) (n : ℕ)
     → n + (reads_of scope space at.index).size + reads x ≡ n + (both_reads scope space at x).size

@@ -35,12 +35,7 @@ impl Builder {
     }
 
     // The end of a call of so many positions, whose points stand behind the first `before`.
-    fn end_call(
-        &mut self,
-        policy: Policy,
-        positions: u32,
-        before: usize,
-    ) -> Result<(), AllocError>
+    fn end_call(&mut self, policy: Policy, positions: u32, before: usize) -> Result<(), AllocError>
         ensures { OnOk result (self.new ≡ spec.ended self.old policy positions before) }
     {
         let count = self.points.len().saturating_sub(before);
@@ -139,4 +134,41 @@ impl Builder {
             Item::Print(_) => Ok(()),
         }
     }
+}
+
+fn build_item(
+    alloc: Global,
+    scope: &Scope,
+    number: u32,
+    earlier: u32,
+    item: &Item,
+) -> Result<ItemPoints, AllocError>
+    requires room { HasRoom scope.now }
+    requires sound { All (IsSound scope.now) (parts.statements item.now) }
+    requires fits { Fits scope.now earlier item.now }
+    ensures points { IfOk result (λ x. x.points ≡ points.points_of scope.now number earlier item.now) }
+    ensures calls { IfOk result (λ x. x.calls ≡ points.calls_of scope.now number earlier item.now) }
+{
+    let mut builder = Builder::new(alloc, number, earlier);
+    builder.add_item(alloc, scope, item)?;
+    let Builder { points, calls, .. } = builder;
+    Ok(ItemPoints { points, calls })
+}
+
+/// The points and the calls of a sound item, in text order. The item has this number, and `earlier` calls stand before its
+/// own.
+pub fn item_points(
+    alloc: Global,
+    scope: &Scope,
+    number: u32,
+    earlier: u32,
+    item: &Item,
+) -> Result<ItemPoints, NoMemory>
+    requires room { HasRoom scope.now }
+    requires sound { All (IsSound scope.now) (parts.statements item.now) }
+    requires fits { Fits scope.now earlier item.now }
+    ensures points { IfOk result (λ x. x.points ≡ points.points_of scope.now number earlier item.now) }
+    ensures calls { IfOk result (λ x. x.calls ≡ points.calls_of scope.now number earlier item.now) }
+{
+    build_item(alloc, scope, number, earlier, item).map_err(|_| NoMemory)
 }

@@ -58,12 +58,7 @@ impl Builder {
     }
 
     // The Reads of an expression and a point that touches nothing, whose number is given.
-    fn compute(
-        &mut self,
-        alloc: Global,
-        scope: &Scope,
-        value: &Expr,
-    ) -> Result<usize, AllocError>
+    fn compute(&mut self, alloc: Global, scope: &Scope, value: &Expr) -> Result<usize, AllocError>
         ensures number { IfOk result (λ n. n + 1 ≡ length self.new.points) }
         ensures points { OnOk result (spec.AddsPlain self.old self.new (reads_of scope.now self.old.space value.now)) }
     {

@@ -1,4 +1,4 @@
-use Rattle.pts_points.proofs.ItemPoints.{live_out_shown, into_shown}
+use Rattle.pts_points.proofs.PointLists.{live_out_shown, into_shown}
 use Rattle.pts_points.proofs.laws.clauses_and_answers_have_one_cell.Goals as goal
 
 pub returns-clause-clauses : goal.returns-clause-clauses

@@ -1,4 +1,4 @@
-use Rattle.pts_points.proofs.ItemPoints.{stands_behind, tests_shown}
+use Rattle.pts_points.proofs.PointLists.{stands_behind, tests_shown}
 use Rattle.pts_points.proofs.laws.points_stand_behind_what_they_need.Goals as goal
 
 pub returns-clause-all : goal.returns-clause-all
