@@ -17,3 +17,4 @@ pub mod TaskTurns
 pub mod Interiors
 pub mod SoundItems
 pub mod Exact
+pub mod CallLists

@@ -3,6 +3,7 @@ use Rattle.std.specs.Prelude.{◌≡◌, ℕ, ◌+◌, ◌<◌, ◌≤◌, Optio
 use Rattle.pts_affine.specs.declared.line.Line.{Line}
 use Rattle.pts_rules.specs.Counts.{reads}
 use Rattle.pts_points.specs.declared.point.Branch.{Branch}
+use Rattle.pts_points.specs.declared.point.CallInfo.{CallInfo}
 use Rattle.pts_points.specs.Pieces.{LetPoint, Computation, Index, Along, Computed, Deed, Reads, Assigns, Updates, Notes, Tests, Gives, LivesOut, Answers, Point}
 
 -- the tests ascend, none is below the first number, and each is below the last one
@@ -54,3 +55,8 @@ abbrev pub AreTogether : List Point → Type 0
 AreTogether points =
     (i j k : ℕ) (x y z : Point) (off : ℕ) → i < j → j < k → slice_get points i ≡ Some x → slice_get points j ≡ Some y → slice_get points k ≡ Some z
     → x.context.off ≡ Some off → z.context.off ≡ Some off → y.context.off ≡ Some off
+
+-- the point of this number is one of the call
+pub record HasPoint (call : CallInfo) (k : ℕ) : Type 0 where
+  pub from : call.first_point ≤ k
+  pub before : k < call.first_point + call.points

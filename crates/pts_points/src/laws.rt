@@ -4,10 +4,11 @@ ghost use Rattle.std.specs.Prelude.{◌≡◌, ℕ, ◌+◌, ◌<◌, ◌≤◌,
 ghost use Rattle.pts_tree.specs.declared.script.Item.{Item};
 ghost use Rattle.pts_rules.specs.Known.{Scope};
 ghost use Rattle.pts_points.specs.declared.point.PointForm.TheVariants as forms;
+ghost use Rattle.pts_points.specs.declared.point.CallInfo.{CallInfo};
 ghost use Rattle.pts_points.specs.declared.point.PointInfo.{PointInfo};
 ghost use Rattle.pts_points.specs.Pieces.{Point};
-ghost use Rattle.pts_points.specs.Points.{item_points, points_of};
-ghost use Rattle.pts_points.specs.Standings.{Ascends, IsCell, StandsBehind, AreTogether};
+ghost use Rattle.pts_points.specs.Points.{calls_of, item_points, points_of};
+ghost use Rattle.pts_points.specs.Standings.{Ascends, IsCell, HasPoint, StandsBehind, AreTogether};
 
 /// The number of a point is its place in the list of its item.
 pub fn numbers_are_places()
@@ -30,4 +31,12 @@ pub fn offs_stand_together()
 pub fn clauses_and_answers_have_one_cell()
     ensures clauses { (scope : Scope) (item earlier : ℕ) (x : Item) (k : ℕ) (y : PointInfo) → slice_get (points_of scope item earlier x) k ≡ Some y → y.form ≡ forms.LiveOut → IsCell y.line }
     ensures answers { (scope : Scope) (item earlier : ℕ) (x : Item) (k : ℕ) (y : PointInfo) → slice_get (points_of scope item earlier x) k ≡ Some y → y.form ≡ forms.Into → IsCell y.line }
+{}
+
+/// The points of a call are those of its item that name it: `points` many from its first one on.
+pub fn calls_have_the_points_that_name_them()
+    ensures named { (scope : Scope) (item earlier : ℕ) (x : Item) (c : ℕ) (y : CallInfo) → slice_get (calls_of scope item earlier x) c ≡ Some y
+        → (k : ℕ) (z : PointInfo) → slice_get (points_of scope item earlier x) k ≡ Some z → (z.call ≡ Some (earlier + c)) ↔ HasPoint y k }
+    ensures within { (scope : Scope) (item earlier : ℕ) (x : Item) (c : ℕ) (y : CallInfo) → slice_get (calls_of scope item earlier x) c ≡ Some y
+        → y.first_point + y.points ≤ length (points_of scope item earlier x) }
 {}
