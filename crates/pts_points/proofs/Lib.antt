@@ -18,3 +18,4 @@ pub mod Interiors
 pub mod SoundItems
 pub mod Exact
 pub mod CallLists
+pub mod Countings

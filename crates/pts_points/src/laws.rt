@@ -1,8 +1,12 @@
 //! What holds of the points of every item.
 
-ghost use Rattle.std.specs.Prelude.{◌≡◌, ℕ, ◌+◌, ◌<◌, ◌≤◌, ◌↔◌, Some, slice_get, length};
+ghost use Rattle.std.specs.Prelude.{◌≡◌, false, ℕ, ◌+◌, ◌<◌, ◌≤◌, ◌↔◌, Some, slice_get, length};
+ghost use Rattle.std.specs.List.{list_any};
 ghost use Rattle.pts_tree.specs.declared.script.Item.{Item};
 ghost use Rattle.pts_rules.specs.Known.{Scope};
+ghost use Rattle.pts_rules.specs.Indices.{has_not_affine};
+ghost use Rattle.pts_rules.specs.Limits as limits;
+ghost use Rattle.pts_rules.specs.Parts.{statements};
 ghost use Rattle.pts_points.specs.declared.point.PointForm.TheVariants as forms;
 ghost use Rattle.pts_points.specs.declared.point.CallInfo.{CallInfo};
 ghost use Rattle.pts_points.specs.declared.point.PointInfo.{PointInfo};
@@ -39,4 +43,9 @@ pub fn calls_have_the_points_that_name_them()
         → (k : ℕ) (z : PointInfo) → slice_get (points_of scope item earlier x) k ≡ Some z → (z.call ≡ Some (earlier + c)) ↔ HasPoint y k }
     ensures within { (scope : Scope) (item earlier : ℕ) (x : Item) (c : ℕ) (y : CallInfo) → slice_get (calls_of scope item earlier x) c ≡ Some y
         → y.first_point + y.points ≤ length (points_of scope item earlier x) }
+{}
+
+/// An item whose indices are lines has as many points as the rules count.
+pub fn lines_have_the_points_that_are_counted()
+    ensures { (scope : Scope) (earlier : ℕ) (x : Item) → list_any (has_not_affine scope) (statements x) ≡ false → length (item_points scope earlier x) ≡ limits.points x }
 {}
