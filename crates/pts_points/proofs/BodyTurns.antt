@@ -90,17 +90,16 @@ module _ (scope : Scope) (b c d : Builder) (at : Place) (x : Expr) where
 
 -- back from off the vector, behind the update
 pub update_room : (scope : Scope) (b c m p : Builder) (at : Place) (x : Expr) → Adds b c (both_reads scope b.space at x) → m ≡ off_builder c → p ≡ pushed_at scope m Update at
-    → taken b.off ((both_reads scope b.space at x).offs + 1) b.offs < 2 ^ 32 → taken c.off 1 p.offs < 2 ^ 32
+    → taken b.off ((both_reads scope b.space at x).offs + 1) b.offs < 2 ^ 32 → taken b.off 1 p.offs < 2 ^ 32
 update_room scope b c m p at x h away put room =
     let reads = both_reads scope b.space at x in
-    let offs = ap (λ z. z.offs) (h.added [] []) in
-    let off = ap (λ z. z.off) (h.added [] []) in
-    let same : p.offs ≡ c.offs = ap (λ z. z.offs) put ∙ ap (λ z. z.offs) away in
-    subst (λ z. z < 2 ^ 32) (sym ((λ i. taken (off i) 1 ((same ∙ offs) i)) ∙ taken_both b.off reads.offs 1 b.offs)) room
+    let offs : p.offs ≡ taken b.off reads.offs b.offs = ap (λ z. z.offs) put ∙ ap (λ z. z.offs) away ∙ ap (λ z. z.offs) (h.added [] []) in
+    subst (λ z. z < 2 ^ 32) (sym (ap (taken b.off 1) offs ∙ taken_both b.off reads.offs 1 b.offs)) room
 
-pub update_done : (scope : Scope) (c m p d : Builder) (at : Place) → m ≡ off_builder c → p ≡ pushed_at scope m Update at → d ≡ back_on c.off p
+pub update_done : (scope : Scope) (b c m p d : Builder) (at : Place) (x : Expr) → Adds b c (both_reads scope b.space at x) → m ≡ off_builder c → p ≡ pushed_at scope m Update at → d ≡ back_on b.off p
     → d ≡ back_on c.off (pushed_at scope (off_builder c) Update at)
-update_done scope c m p d at away put back = back ∙ ap (back_on c.off) (put ∙ ap (λ z. pushed_at scope z Update at) away)
+update_done scope b c m p d at x h away put back =
+    back ∙ (λ i. back_on (sym (ap (λ z. z.off) (h.added [] [])) i) ((put ∙ ap (λ z. pushed_at scope z Update at) away) i))
 
 -- ---- points that touch nothing
 

@@ -71,11 +71,10 @@ module _ (scope : Scope) (index : Option Name) where
   KnownPart = (x : ChainPart) × ReadsNothing x.operand
 
   said : (x : Expr) (r : Reading) (n : ℕ) → reading scope index x ≡ r → reads x ≡ n → IsClear r.affine n → IsClear r.literal n → ReadsNothing x
-  said x r n p q h k =
-      (
-        subst (λ z. IsClear z.affine (reads x)) (sym p) (subst (IsClear r.affine) (sym q) h),
-        subst (λ z. IsClear z.literal (reads x)) (sym p) (subst (IsClear r.literal) (sym q) k),
-      )
+  said x r n p q h k = (
+    subst (λ z. IsClear z.affine (reads x)) (sym p) (subst (IsClear r.affine) (sym q) h),
+    subst (λ z. IsClear z.literal (reads x)) (sym p) (subst (IsClear r.literal) (sym q) k),
+  )
 
   bare : (x : Expr) → reads x ≡ 0 → ReadsNothing x
   bare x h = (clear (affine_of scope index x) (reads x) h, clear (reading scope index x).literal (reads x) h)

@@ -97,11 +97,11 @@ impl Builder {
         requires { taken self.old.off ((both_reads scope.now self.old.space place.now value.now).offs + 1) self.old.offs < 2 ^ 32 }
         ensures { OnOk result ((op : ScalarOp) → spec.Adds self.old self.new (served_off (both_reads scope.now self.old.space place.now value.now) (update_deed scope.now self.old.space place.now op value.now))) }
     {
+        let around = self.off;
         self.both(alloc, scope, place, value)?;
-        let off = self.off;
         self.leave_vector();
         self.push_place(alloc, scope, PointForm::Update, place)?;
-        self.back_on(off);
+        self.back_on(around);
         Ok(())
     }
 
