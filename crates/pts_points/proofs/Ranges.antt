@@ -166,6 +166,9 @@ few_by sizes (Some n) size h few = let l : n < length sizes = h.1 in omega (arit
 pub array_few : (scope : Scope) → HasRoom scope → (name : Name) → array_at scope name ≤ 2 ^ 32 - 1
 array_few scope room name = few_by (lengths scope) (array_number scope name) (length_of scope name) (numbered scope name) room.few
 
+pub array_same : (scope : Scope) (name : Name) (result : ℕ) → HasRoom scope → result ≡ small (array_at scope name) → result ≡ array_at scope name
+array_same scope name result room e = e ∙ small_same (array_at scope name) (array_few scope room name)
+
 short_by : (sizes : List ℤ) (r : Option ℕ) (size : ℤ) → Numbered sizes r size → All (λ z. z ≤ℤ pos (2 ^ 20)) sizes → size ≤ℤ pos (2 ^ 20)
 short_by sizes None size h all = let e : size ≡ pos 0 = h in grind (arith, e)
 short_by sizes (Some n) size h all = subst (λ s. s ≤ℤ pos (2 ^ 20)) h.0 (All-get_or (λ z. z ≤ℤ pos (2 ^ 20)) sizes n (pos 0) h.1 all)

@@ -7,7 +7,7 @@ ghost use Rattle.pts_points.specs.Pieces.{behind, sequence};
 ghost use Rattle.pts_points.specs.Points as points;
 
 use crate::builder::Builder;
-use crate::lines::{array_at, line_of_cell, line_of_range};
+use crate::lines::{kept_array, line_of_cell, line_of_range};
 use crate::point::PointForm;
 use pts_rules::Scope;
 use pts_tree::{Call, CallForm, Cell, Clause, Initial, Loop, Range};
@@ -23,7 +23,7 @@ impl Builder {
     ) -> Result<(), AllocError>
         ensures { OnOk result (self.new ≡ spec.pushed_range scope.now self.old form range.now) }
     {
-        let array = array_at(scope, &range.array);
+        let array = kept_array(scope, &range.array);
         self.push(alloc, form, array, line_of_range(scope, range))
     }
 
@@ -37,7 +37,7 @@ impl Builder {
     ) -> Result<(), AllocError>
         ensures { OnOk result (self.new ≡ spec.pushed_cell scope.now self.old form cell.now) }
     {
-        let array = array_at(scope, &cell.array);
+        let array = kept_array(scope, &cell.array);
         self.push(alloc, form, array, line_of_cell(scope, cell))
     }
 

@@ -18,4 +18,5 @@ pub use laws::{
     lines_have_the_points_that_are_counted, numbers_are_places, offs_stand_together,
     points_stand_behind_what_they_need,
 };
+pub use lines::array_at;
 pub use point::{Branch, CallInfo, PointForm, PointInfo};

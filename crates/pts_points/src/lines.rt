@@ -3,6 +3,7 @@
 ghost use Rattle.std.specs.Prelude.{◌≡◌, ◌+ℤ◌, ◌-ℤ◌, ◌*ℤ◌};
 ghost use Rattle.pts_rules.specs.Known as known;
 ghost use Rattle.pts_points.specs.Building as building;
+ghost use Rattle.pts_points.specs.Inside.{HasRoom};
 ghost use Rattle.pts_points.specs.Lines as spec;
 ghost use Rattle.pts_points.specs.Widths as widths;
 
@@ -14,14 +15,23 @@ use pts_limits::number;
 use pts_rules::Scope;
 use pts_tree::{Cell, Expr, Name, Range};
 
-/// The number of an array; 0 where there is none.
-pub fn array_at(scope: &Scope, name: &Name) -> u32
+/// The number of an array in 32 bits; 0 where there is none.
+pub fn kept_array(scope: &Scope, name: &Name) -> u32
     ensures { result ≡ widths.small (spec.array_at scope.now name.now) }
 {
     match scope.array_number(name) {
         Some(number) => small(number as u128),
         None => 0,
     }
+}
+
+/// The number of an array, from 0 in the order in which the arrays were declared; 0 where there is none.
+#[tactic(auto, using(crate::proofs::Ranges::array_same))]
+pub fn array_at(scope: &Scope, name: &Name) -> u32
+    requires { HasRoom scope.now }
+    ensures { result ≡ spec.array_at scope.now name.now }
+{
+    kept_array(scope, name)
 }
 
 fn distance(low: i128, high: i128) -> u128

@@ -6,7 +6,7 @@ ghost use Rattle.pts_points.specs.Pieces.{sequence};
 ghost use Rattle.pts_points.specs.Points.{reads_of};
 
 use crate::builder::Builder;
-use crate::lines::{array_at, line_of_index};
+use crate::lines::{kept_array, line_of_index};
 use crate::point::PointForm;
 use pts_rules::Scope;
 use pts_tree::{ChainPart, Expr, Name};
@@ -51,7 +51,7 @@ impl Builder {
     {
         self.reads(alloc, scope, index)?;
         let line = line_of_index(scope, &self.space, index);
-        self.push(alloc, PointForm::Read, array_at(scope, array), line)
+        self.push(alloc, PointForm::Read, kept_array(scope, array), line)
     }
 
     /// The Reads of an expression, in text order; those of an index stand before the Read that it is the index of.

@@ -7,7 +7,7 @@ ghost use Rattle.pts_points.specs.Pieces.{served, served_off, off_vector, taken}
 ghost use Rattle.pts_points.specs.Points.{reads_of, both_reads, assign_deed, update_deed, stmt_piece, body_piece};
 
 use crate::builder::{Builder, Test};
-use crate::lines::{array_at, line_of_index};
+use crate::lines::{kept_array, line_of_index};
 use crate::point::PointForm;
 use pts_affine::Line;
 use pts_rules::Scope;
@@ -27,7 +27,7 @@ impl Builder {
         ensures { OnOk result (self.new ≡ spec.pushed_at scope.now self.old form place.now) }
     {
         let line = line_of_index(scope, &self.space, &place.index);
-        self.push(alloc, form, array_at(scope, &place.array), line)
+        self.push(alloc, form, kept_array(scope, &place.array), line)
     }
 
     // The Reads of a place that is written and of the value for it.

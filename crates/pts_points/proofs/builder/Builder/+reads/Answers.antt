@@ -18,8 +18,8 @@ each-returns t c = adds_all (reads_of c.args.scope.now c.args.self.now.space) c.
 pub element-returns : goal.element-returns
 element-returns t c =
     on_ok_weaker c.push.result
-    (read_added c.args.scope.now c.args.self.now c.reads.new.self c.push.new.self c.args.array.now c.args.index.now c.array_at.result c.line_of_index-line.result c.in_ok-reads.ensures
-    c.array_at.ensures c.line_of_index-line.ensures) c.push.ensures
+    (read_added c.args.scope.now c.args.self.now c.reads.new.self c.push.new.self c.args.array.now c.args.index.now c.kept_array.result c.line_of_index-line.result c.in_ok-reads.ensures
+    c.kept_array.ensures c.line_of_index-line.ensures) c.push.ensures
 
 pub operands-loop-part-init : goal.operands-loop-part-init
 operands-loop-part-init t c = adds_nothing c.args.self.now
