@@ -17,7 +17,7 @@ use Rattle.pts_points.specs.declared.point.PointForm.TheVariants.{Write, Update,
 use Rattle.pts_points.specs.Widths.{small}
 use Rattle.pts_points.specs.Pieces.{Context, Deed, Piece, taken, nothing, behind, sequence, served, served_off, off_vector, binding, branching}
 use Rattle.pts_points.specs.Points.{array_at, array_of, form_of, line_of_deed, reads_of, both_reads, assign_deed, update_deed, kind_of_let, stmt_piece, body_piece}
-use Rattle.pts_points.specs.Building.{Adds, AddsUnder, AddsPlain, HasOffs, IsPlain, kept_line, line_of_index, pushed, pushed_at, off_builder, back_on}
+use Rattle.pts_points.specs.Building.{Adds, AddsUnder, AddsPlain, IsPlain, kept_line, line_of_index, pushed, pushed_at, off_builder, back_on}
 use Rattle.pts_points.proofs.StatementForms as forms
 use Rattle.pts_points.proofs.StatementForms.{note_deed, give_deed, test_deed, else_piece}
 use Rattle.pts_points.proofs.Standing.{Good, good_served}
@@ -25,35 +25,6 @@ use Rattle.pts_points.proofs.Wholes.{good_reads, good_both, good_body, good_stmt
 use Rattle.pts_points.proofs.Builds.{IsShownAs, adds_nothing, adds_behind, adds_served, adds_served_off, adds_off_vector, adds_binding, adds_under_nothing, adds_branching, taken_both}
 use Rattle.pts_points.proofs.Turns.{same_space, adds_turn, adds_all}
 use Rattle.pts_points.proofs.ReadTurns.{index_shown, same_reads, then_reads}
-
--- ---- numbers of `off`
-
-taken_more : (o : Option ℕ) (a c m : ℕ) → a ≤ c → taken o a m ≤ taken o c m
-taken_more None a c m le = omega (arith, le)
-taken_more (Some d) a c m le = omega arith
-
-taken_fits : (o : Option ℕ) (a c m : ℕ) → a ≤ c → taken o c m < 2 ^ 32 → taken o a m < 2 ^ 32
-taken_fits o a c m le h = let k = taken_more o a c m le in omega (arith, h, k)
-
--- what is left of the room behind a piece
-pub room_behind : (b c : Builder) (x y whole : Piece) → Adds b c x → x.offs + y.offs ≤ whole.offs → HasOffs b whole → HasOffs c y
-room_behind b c x y whole h le room =
-    let offs = ap (λ z. z.offs) (h.added [] []) in
-    let off = ap (λ z. z.off) (h.added [] []) in
-    subst (λ z. z < 2 ^ 32) (sym ((λ i. taken (off i) y.offs (offs i)) ∙ taken_both b.off x.offs y.offs b.offs)) (taken_fits b.off (x.offs + y.offs) whole.offs b.offs le room)
-
-inside_off : (o : Option ℕ) (m : ℕ) → taken o 1 m < 2 ^ 32 → m < 2 ^ 32
-inside_off None m h = omega (arith, h)
-inside_off (Some d) m h = h
-
-pub room_off : (b : Builder) (x : Piece) → HasOffs b (off_vector x) → HasOffs (off_builder b) x
-room_off b x h = inside_off b.off b.offs h
-
-room_within : {A : Type 0} (f : A → Piece) (xs : List A) (at : ℕ) (x : A) → at < length xs → get_or xs at x ≡ x
-    → (sequence (map f (take at xs))).offs + (f x).offs ≤ (sequence (map f xs)).offs
-room_within f [] at x within is = absurd (omega (arith, within))
-room_within f (y ∷ ys) zero x within is = let same : (f y).offs ≡ (f x).offs = ap (λ z. (f z).offs) is in omega (arith, same)
-room_within f (y ∷ ys) (suc at) x within is = let h = room_within f ys at x (omega (arith, within)) is in omega (arith, h)
 
 -- ---- places
 
@@ -89,13 +60,6 @@ module _ (scope : Scope) (b c d : Builder) (at : Place) (x : Expr) where
       }) h e
 
 -- back from off the vector, behind the update
-pub update_room : (scope : Scope) (b c m p : Builder) (at : Place) (x : Expr) → Adds b c (both_reads scope b.space at x) → m ≡ off_builder c → p ≡ pushed_at scope m Update at
-    → taken b.off ((both_reads scope b.space at x).offs + 1) b.offs < 2 ^ 32 → taken b.off 1 p.offs < 2 ^ 32
-update_room scope b c m p at x h away put room =
-    let reads = both_reads scope b.space at x in
-    let offs : p.offs ≡ taken b.off reads.offs b.offs = ap (λ z. z.offs) put ∙ ap (λ z. z.offs) away ∙ ap (λ z. z.offs) (h.added [] []) in
-    subst (λ z. z < 2 ^ 32) (sym (ap (taken b.off 1) offs ∙ taken_both b.off reads.offs 1 b.offs)) room
-
 pub update_done : (scope : Scope) (b c m p d : Builder) (at : Place) (x : Expr) → Adds b c (both_reads scope b.space at x) → m ≡ off_builder c → p ≡ pushed_at scope m Update at → d ≡ back_on b.off p
     → d ≡ back_on c.off (pushed_at scope (off_builder c) Update at)
 update_done scope b c m p d at x h away put back =
@@ -133,12 +97,6 @@ module _ (scope : Scope) (b c d : Builder) (xs : List BodyStmt) (at : ℕ) (x : 
       adds_turn (stmt_piece scope b.space) (good_stmt scope b.space) b c d xs at x within is h
       (subst (λ s. Adds c d (stmt_piece scope s x)) (same_space b c (body_piece scope b.space (take at xs)) h) k)
 
-  pub room_for_turn : at < length xs → x ≡ get_or xs at x → Adds b c (body_piece scope b.space (take at xs)) → HasOffs b (body_piece scope b.space xs) → HasOffs c (stmt_piece scope c.space x)
-  room_for_turn within is h room =
-      let f = stmt_piece scope b.space in
-      subst (λ s. HasOffs c (stmt_piece scope s x)) (sym (same_space b c (body_piece scope b.space (take at xs)) h))
-      (room_behind b c (body_piece scope b.space (take at xs)) (f x) (body_piece scope b.space xs) h (room_within f xs at x within (sym is)) room)
-
 -- ---- forms
 
 module _ (scope : Scope) (b c : Builder) (x : BodyStmt) where
@@ -147,9 +105,6 @@ module _ (scope : Scope) (b c : Builder) (x : BodyStmt) where
 
   by_form : (y : BodyStmt) (z : Piece) → x ≡ y → piece y ≡ z → Adds b c z → Adds b c (piece x)
   by_form y z is e h = subst (Adds b c) (sym (ap piece is ∙ e)) h
-
-  room_by_form : (y : BodyStmt) (z : Piece) → x ≡ y → piece y ≡ z → HasOffs b (piece x) → HasOffs b z
-  room_by_form y z is e h = subst (HasOffs b) (ap piece is ∙ e) h
 
   pub in-Assign : (at : Place) (y : Expr) → x ≡ variants.Assign at y → Adds b c (served (both_reads scope b.space at y) (assign_deed scope b.space at y)) → Adds b c (stmt_piece scope b.space x)
   in-Assign at y is h = by_form (variants.Assign at y) (served (both_reads scope b.space at y) (assign_deed scope b.space at y)) is (forms.stmt-Assign scope b.space at y) h
@@ -167,17 +122,9 @@ module _ (scope : Scope) (b c : Builder) (x : BodyStmt) where
       → ((o : ScalarOp) → Adds b c (served_off (both_reads scope b.space at y) (update_deed scope b.space at o y))) → Adds b c (stmt_piece scope b.space x)
   in-Ordered at op y is h = by_form (variants.Ordered at op y) (served_off (both_reads scope b.space at y) (update_deed scope b.space at op y)) is (forms.stmt-Ordered scope b.space at op y) (h op)
 
-  pub room-Ordered : (at : Place) (op : ScalarOp) (y : Expr) → x ≡ variants.Ordered at op y → HasOffs b (stmt_piece scope b.space x)
-      → taken b.off ((both_reads scope b.space at y).offs + 1) b.offs < 2 ^ 32
-  room-Ordered at op y is room = room_by_form (variants.Ordered at op y) (served_off (both_reads scope b.space at y) (update_deed scope b.space at op y)) is (forms.stmt-Ordered scope b.space at op y) room
-
   pub in-VecOff : (xs ys : List BodyStmt) → x ≡ variants.VecOff xs → ys ≡ xs → Adds b c (off_vector (body_piece scope b.space ys)) → Adds b c (stmt_piece scope b.space x)
   in-VecOff xs ys is same h =
       by_form (variants.VecOff xs) (off_vector (body_piece scope b.space ys)) is (forms.stmt-VecOff scope b.space xs ∙ ap (λ zs. off_vector (body_piece scope b.space zs)) (sym same)) h
-
-  pub room-VecOff : (xs ys : List BodyStmt) → x ≡ variants.VecOff xs → ys ≡ xs → HasOffs b (stmt_piece scope b.space x) → HasOffs b (off_vector (body_piece scope b.space ys))
-  room-VecOff xs ys is same room =
-      room_by_form (variants.VecOff xs) (off_vector (body_piece scope b.space ys)) is (forms.stmt-VecOff scope b.space xs ∙ ap (λ zs. off_vector (body_piece scope b.space zs)) (sym same)) room
 
 -- an `if`: the test, one branch, and where there is one the other
 module _ (scope : Scope) (b c : Builder) (stmt : BodyStmt) (x : Expr) (xs zs : List BodyStmt) (ys : Option (List BodyStmt))
@@ -197,35 +144,12 @@ module _ (scope : Scope) (b c : Builder) (stmt : BodyStmt) (x : Expr) (xs zs : L
   test_added : Adds b c tested_piece
   test_added = tested.added (test_deed x) (plain_tests x)
 
-  pub room-If : HasOffs b (stmt_piece scope b.space stmt) → HasOffs c (body_piece scope c.space zs)
-  room-If room =
-      subst (λ s. HasOffs c (body_piece scope s zs)) (sym (same_space b c tested_piece test_added))
-      (room_behind b c tested_piece (body_piece scope b.space zs) branches test_added (omega arith) (subst (HasOffs b) is_branches room))
-
   pub in-If : (d e : Builder) (t : ℕ) → t + 1 ≡ length c.points → AddsUnder (record { number = t; taken = true }) c d (body_piece scope c.space zs)
       → AddsUnder (record { number = t; taken = false }) d e (else_piece scope b.space ys) → Adds b e (stmt_piece scope b.space stmt)
   in-If d e t place first second =
       subst (Adds b e) (sym is_branches)
       (adds_branching b own (test_deed x) (body_piece scope b.space zs) (else_piece scope b.space ys) t c d e (tests_good scope b.space x) (good_body scope b.space zs) test_added place
       (subst (λ s. AddsUnder (record { number = t; taken = true }) c d (body_piece scope s zs)) (same_space b c tested_piece test_added) first) second)
-
-  pub room-else : (d : Builder) (t : ℕ) (us vs : List BodyStmt) → ys ≡ Some us → vs ≡ us → AddsUnder (record { number = t; taken = true }) c d (body_piece scope c.space zs)
-      → HasOffs b (stmt_piece scope b.space stmt) → HasOffs d (body_piece scope d.space vs)
-  room-else d t us vs some alike first room =
-      let at_c = same_space b c tested_piece test_added in
-      let first_piece = body_piece scope b.space zs in
-      let second_piece = body_piece scope b.space vs in
-      let placed : AddsUnder (record { number = t; taken = true }) c d first_piece = subst (λ s. AddsUnder (record { number = t; taken = true }) c d (body_piece scope s zs)) at_c first in
-      let same : d.space ≡ b.space = ap (λ z. z.space) (placed.added [] []) ∙ at_c in
-      let whole : HasOffs b (branching own (test_deed x) first_piece second_piece) =
-      subst (λ z. HasOffs b (branching own (test_deed x) first_piece z)) (ap (else_piece scope b.space) some ∙ ap (body_piece scope b.space) (sym alike)) (subst (HasOffs b) is_branches room) in
-      subst (λ s. HasOffs d (body_piece scope s vs)) (sym same)
-      (subst (λ z. z < 2 ^ 32)
-      (sym ((λ i. taken ((placed.added [] []) i).off second_piece.offs ((placed.added [] []) i).offs)
-      ∙ (λ i. taken ((test_added.added [] []) i).off second_piece.offs (taken ((test_added.added [] []) i).off first_piece.offs ((test_added.added [] []) i).offs))
-      ∙ ap (taken b.off second_piece.offs) (taken_both b.off own.offs first_piece.offs b.offs)
-      ∙ taken_both b.off (own.offs + first_piece.offs) second_piece.offs b.offs))
-      whole)
 
   pub in-If-else : (d e : Builder) (t : ℕ) (us vs : List BodyStmt) → ys ≡ Some us → vs ≡ us → t + 1 ≡ length c.points
       → AddsUnder (record { number = t; taken = true }) c d (body_piece scope c.space zs) → AddsUnder (record { number = t; taken = false }) d e (body_piece scope d.space vs) → Adds b e (stmt_piece scope b.space stmt)
@@ -243,12 +167,3 @@ module _ (scope : Scope) (b c : Builder) (stmt : BodyStmt) (x : Expr) (xs zs : L
 -- a block off the vector
 pub off_added : (scope : Scope) (b m c d : Builder) (xs : List BodyStmt) → m ≡ off_builder b → Adds m c (body_piece scope m.space xs) → d ≡ back_on b.off c → Adds b d (off_vector (body_piece scope b.space xs))
 off_added scope b m c d xs away h back = adds_off_vector b c d (body_piece scope b.space xs) (subst (λ z. Adds z c (body_piece scope z.space xs)) away h) back
-
-pub off_room_back : (scope : Scope) (b m c : Builder) (xs : List BodyStmt) → m ≡ off_builder b → Adds m c (body_piece scope m.space xs) → HasOffs b (off_vector (body_piece scope b.space xs)) → taken b.off 1 c.offs < 2 ^ 32
-off_room_back scope b m c xs away h room =
-    let k : Adds (off_builder b) c (body_piece scope b.space xs) = subst (λ z. Adds z c (body_piece scope z.space xs)) away h in
-    let same : c.offs ≡ b.offs = ap (λ z. z.offs) (k.added [] []) in
-    subst (λ z. taken b.off 1 z < 2 ^ 32) (sym same) room
-
-pub off_room_in : (scope : Scope) (b m : Builder) (xs : List BodyStmt) → m ≡ off_builder b → HasOffs b (off_vector (body_piece scope b.space xs)) → HasOffs m (body_piece scope m.space xs)
-off_room_in scope b m xs away room = subst (λ z. HasOffs z (body_piece scope z.space xs)) (sym away) (room_off b (body_piece scope b.space xs) room)

@@ -8,9 +8,9 @@ use Rattle.pts_rules.specs.Parts.{Simple, Throw, Assign, Call, Loop, statements}
 use Rattle.pts_rules.specs.Known.{Scope}
 use Rattle.pts_points.specs.declared.point.CallInfo.{CallInfo}
 use Rattle.pts_points.specs.declared.point.PointInfo.{PointInfo}
+use Rattle.pts_points.specs.Building.{points_among}
 use Rattle.pts_points.specs.Pieces.{Point}
 use Rattle.pts_points.specs.Points.{statement_piece, context_of, calls_in, points_from, item_points, call_at, calls_from, info, points_of, calls_of}
-use Rattle.pts_points.specs.Fits.{points_among}
 use Rattle.pts_points.specs.Standings.{HasPoint}
 use Rattle.pts_points.proofs.Each.{Each, both, weaker, at_place}
 use Rattle.pts_points.proofs.Wholes.{good_statement}

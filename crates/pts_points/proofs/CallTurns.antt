@@ -13,12 +13,11 @@ use Rattle.pts_points.specs.declared.point.PointForm.TheVariants.{Read, Write, L
 use Rattle.pts_points.specs.Lines.{line_of_range, line_of_cell, space_of}
 use Rattle.pts_points.specs.Pieces.{Along, Reads, Fills, LivesOut, Answers, Piece, taken, nothing, behind, sequence}
 use Rattle.pts_points.specs.Points.{array_at, body_piece, live_out, clause_piece, loop_piece, source_piece, target_piece, answer_piece, piece_of, own_piece, call_piece}
-use Rattle.pts_points.specs.Building.{Adds, HasOffs, pushed_range, pushed_cell}
+use Rattle.pts_points.specs.Building.{Adds, pushed_range, pushed_cell}
 use Rattle.pts_points.proofs.Standing.{Good, good_nothing, good_behind}
 use Rattle.pts_points.proofs.Wholes.{good_source, good_target, good_answer, good_own, good_piece_of, good_clause, good_clauses}
 use Rattle.pts_points.proofs.Builds.{adds_nothing, adds_behind, adds_alone}
 use Rattle.pts_points.proofs.Turns.{same_space, adds_turn, adds_all}
-use Rattle.pts_points.proofs.BodyTurns.{room_behind}
 
 module _ (scope : Scope) (b c : Builder) where
   pub source_added : (x : Range) → c ≡ pushed_range scope b Read x → Adds b c (source_piece scope x)
@@ -71,13 +70,3 @@ module _ (scope : Scope) where
       let space = same_space b c clauses first ∙ runs in
       adds_behind b c d clauses (body_piece scope (space_of scope x) x.body) (good_clauses scope x.clauses) first
       (subst (λ us. Adds c d (body_piece scope (space_of scope x) us)) is_body (subst (λ s. Adds c d (body_piece scope s zs)) space k))
-
-  pub loop_room : (b c : Builder) (x : loops.Loop) (ys : List Clause) (zs : List BodyStmt) → b.space ≡ space_of scope x → ys ≡ x.clauses → zs ≡ x.body
-      → Adds b c (sequence (map (clause_piece scope) ys)) → HasOffs b (loop_piece scope x) → HasOffs c (body_piece scope c.space zs)
-  loop_room b c x ys zs runs is_clauses is_body h room =
-      let clauses = sequence (map (clause_piece scope) x.clauses) in
-      let first : Adds b c clauses = subst (λ us. Adds b c (sequence (map (clause_piece scope) us))) is_clauses h in
-      let space = same_space b c clauses first ∙ runs in
-      subst (λ s. HasOffs c (body_piece scope s zs)) (sym space)
-      (subst (λ us. HasOffs c (body_piece scope (space_of scope x) us)) (sym is_body)
-      (room_behind b c clauses (body_piece scope (space_of scope x) x.body) (loop_piece scope x) first (omega arith) room))

@@ -32,9 +32,9 @@ use Rattle.pts_rules.proofs.Readings as form
 use Rattle.pts_rules.proofs.ElementCounts as count
 use Rattle.pts_points.specs.declared.space.IterationSpace.{IterationSpace}
 use Rattle.pts_points.specs.Lines.{space_of, no_loop}
+use Rattle.pts_points.specs.Building.{points_among}
 use Rattle.pts_points.specs.Pieces.{Piece, sequence}
 use Rattle.pts_points.specs.Points.{body_piece, clause_piece, initial_piece, own_piece, piece_of, source_piece, target_piece, answer_piece, loop_piece, call_piece, statement_piece, item_points}
-use Rattle.pts_points.specs.Fits.{points_among}
 use Rattle.pts_points.proofs.Each.{Each, front, back}
 use Rattle.pts_points.proofs.StatementForms.{by_bodies}
 use Rattle.pts_points.proofs.StatementTurns.{points_count}

@@ -13,16 +13,16 @@ use Rattle.pts_points.specs.declared.point.CallInfo.{CallInfo}
 use Rattle.pts_points.specs.Lines.{line_of_range}
 use Rattle.pts_points.specs.Pieces.{Point}
 use Rattle.pts_points.specs.Points.{statement_piece, form_of, points_from, item_points, call_at, calls_from, info, points_of, calls_of}
-use Rattle.pts_points.specs.Fits.{Fits, points_among, offs_among, calls_among}
 use Rattle.pts_points.specs.Inside.{HasRoom, IsSound}
 use Rattle.pts_points.specs.Standings.{Ascends}
-use Rattle.pts_points.specs.Building.{HasRoomFor, kept_branch, kept_call, kept_info, no_points, with_statements}
+use Rattle.pts_points.specs.Building.{AreAddable, kept_branch, kept_call, kept_info, no_points, with_statements, points_among, offs_among, calls_among}
 use Rattle.pts_points.proofs.Each.{Each}
 use Rattle.pts_points.proofs.Standing.{Numbered, IsRight}
 use Rattle.pts_points.proofs.PointLists.{numbered_from, right_from, length_is}
 use Rattle.pts_points.proofs.Interiors.{HoldsPoint}
 use Rattle.pts_points.proofs.Ranges.{small_same}
 use Rattle.pts_points.proofs.Builds.{map_both}
+use Rattle.pts_points.proofs.StatementTurns.{points_count}
 use Rattle.pts_points.proofs.SoundItems.{all_held, call_short, loop_short, sound_kept}
 
 fits_word : (n : ℕ) → n < 2 ^ 32 → n ≤ 2 ^ 32 - 1
@@ -91,14 +91,15 @@ module _ (scope : Scope) (room : HasRoom scope) (item : ℕ) where
       map_both kept_call (call_at scope item n x) (calls_from scope item (n + size) xs)
       ∙ (λ i. call_kept n x (All-head (IsSound scope) x xs all) (omega (arith, few)) i ++ calls_kept (n + size) xs (All-tail (IsSound scope) x xs all) (omega (arith, few)) i)
 
-module _ (scope : Scope) (room : HasRoom scope) (item earlier : ℕ) (x : Item) (all : All (IsSound scope) (statements x)) (fits : Fits scope earlier x) where
-  pub first_room : HasRoomFor scope (no_points item earlier) (statements x)
+module _ (scope : Scope) (room : HasRoom scope) (item earlier : ℕ) (x : Item) (all : All (IsSound scope) (statements x)) (few : length (item_points scope earlier x) < 2 ^ 32) where
+  total_few : points_among scope (statements x) < 2 ^ 32
+  total_few = subst (λ n. n < 2 ^ 32) (points_count scope 0 0 earlier (statements x)) few
+
+  pub first_room : AreAddable scope (no_points item earlier) (statements x)
   first_room =
       record {
         idle = record { call = refl; branches = refl; off = refl; space = refl };
         kept = sound_kept scope room (statements x) all;
-        offs = let h = fits.offs in omega (arith, h);
-        calls = let h = fits.calls in omega (arith, h);
       }
 
   pub exact_points : (b : Builder) → b ≡ with_statements scope (no_points item earlier) (statements x) → b.points ≡ points_of scope item earlier x
@@ -107,8 +108,8 @@ module _ (scope : Scope) (room : HasRoom scope) (item earlier : ℕ) (x : Item) 
       let total = points_among scope (statements x) in
       ap (λ z. z.points) h
       ∙ (λ i. map (kept_info item) (points_from scope 0 0 (none i) (statements x)))
-      ∙ points_kept scope item 0 (0 + total) (item_points scope earlier x) (numbered_from scope 0 0 earlier (statements x)) (let f = fits.points in omega (arith, f))
+      ∙ points_kept scope item 0 (0 + total) (item_points scope earlier x) (numbered_from scope 0 0 earlier (statements x)) (let f = total_few in omega (arith, f))
       (all_held scope room 0 0 earlier (statements x) all) (right_from scope 0 0 earlier (statements x))
 
   pub exact_calls : (b : Builder) → b ≡ with_statements scope (no_points item earlier) (statements x) → b.calls ≡ calls_of scope item earlier x
-  exact_calls b h = ap (λ z. z.calls) h ∙ calls_kept scope room item 0 (statements x) all (let f = fits.points in omega (arith, f))
+  exact_calls b h = ap (λ z. z.calls) h ∙ calls_kept scope room item 0 (statements x) all (let f = total_few in omega (arith, f))

@@ -17,8 +17,7 @@ use Rattle.pts_points.specs.Widths.{small}
 use Rattle.pts_points.specs.Lines.{line_of_cell, line_of_range, no_loop, space_of}
 use Rattle.pts_points.specs.Pieces.{Context, Point, Piece, taken}
 use Rattle.pts_points.specs.Points.{array_at, reads_of, assign_piece, call_piece, loop_piece, statement_piece, outside, context_of, calls_in, points_from, call_info, call_at, calls_from}
-use Rattle.pts_points.specs.Fits.{points_among, offs_among, calls_among}
-use Rattle.pts_points.specs.Building.{Adds, HasOffs, IsIdle, AreKept, HasRoomFor, branch_of, context_at, ended, kept_call, kept_info, kept_line, pushed_cell, with_points, with_statements}
+use Rattle.pts_points.specs.Building.{Adds, IsIdle, AreKept, AreAddable, branch_of, context_at, ended, kept_call, kept_info, kept_line, pushed_cell, with_points, with_statements, points_among, offs_among, calls_among}
 use Rattle.pts_points.proofs.Standing.{Good}
 use Rattle.pts_points.proofs.Wholes.{good_reads, good_statement}
 use Rattle.pts_points.proofs.PointLists.{numbered_from, length_is}
@@ -188,22 +187,18 @@ kept_back : (scope : Scope) (xs ys : List Simple) → AreKept scope (xs ++ ys) �
 kept_back scope [] ys h = h
 kept_back scope (x ∷ xs) ys h = kept_back scope xs ys h.1
 
-pub room_front : (scope : Scope) (b : Builder) (xs ys : List Simple) → HasRoomFor scope b (xs ++ ys) → HasRoomFor scope b xs
+pub room_front : (scope : Scope) (b : Builder) (xs ys : List Simple) → AreAddable scope b (xs ++ ys) → AreAddable scope b xs
 room_front scope b xs ys h =
     record {
       idle = h.idle;
       kept = kept_front scope xs ys h.kept;
-      offs = let e = offs_both scope xs ys in let k = h.offs in omega (arith, e, k);
-      calls = let e = count_both xs ys in let k = h.calls in omega (arith, e, k);
     }
 
-pub room_back : (scope : Scope) (b : Builder) (xs ys : List Simple) → HasRoomFor scope b (xs ++ ys) → HasRoomFor scope (with_statements scope b xs) ys
+pub room_back : (scope : Scope) (b : Builder) (xs ys : List Simple) → AreAddable scope b (xs ++ ys) → AreAddable scope (with_statements scope b xs) ys
 room_back scope b xs ys h =
     record {
       idle = record { call = h.idle.call; branches = h.idle.branches; off = h.idle.off; space = h.idle.space };
       kept = kept_back scope xs ys h.kept;
-      offs = let e = offs_both scope xs ys in let k = h.offs in omega (arith, e, k);
-      calls = let e = count_both xs ys in let k = h.calls in let l = with_calls scope b xs in omega (arith, e, k, l);
     }
 
 -- ---- turns
@@ -224,15 +219,15 @@ module _ {A : Type 0} (f : A → List Simple) (scope : Scope) where
   pub statements_all : (b c : Builder) (xs : List A) (at : ℕ) → length xs ≤ at → c ≡ with_statements scope b (flat_map f (take at xs)) → c ≡ with_statements scope b (flat_map f xs)
   statements_all b c xs at past h = subst (λ ys. c ≡ with_statements scope b (flat_map f ys)) (take_all at xs past) h
 
-  room_at : (b : Builder) (xs : List A) (at : ℕ) (x : A) → at < length xs → x ≡ get_or xs at x → HasRoomFor scope b (flat_map f xs)
-      → HasRoomFor scope (with_statements scope b (flat_map f (take at xs))) (f x)
+  room_at : (b : Builder) (xs : List A) (at : ℕ) (x : A) → at < length xs → x ≡ get_or xs at x → AreAddable scope b (flat_map f xs)
+      → AreAddable scope (with_statements scope b (flat_map f (take at xs))) (f x)
   room_at b [] at x within is room = absurd (omega (arith, within))
   room_at b (y ∷ ys) zero x within is room =
-      subst (λ z. HasRoomFor scope z (f x)) (with_none scope b) (subst (λ z. HasRoomFor scope b (f z)) (sym is) (room_front scope b (f y) (flat_map f ys) room))
+      subst (λ z. AreAddable scope z (f x)) (with_none scope b) (subst (λ z. AreAddable scope b (f z)) (sym is) (room_front scope b (f y) (flat_map f ys) room))
   room_at b (y ∷ ys) (suc at) x within is room =
-      subst (λ z. HasRoomFor scope z (f x)) (with_both scope b (f y) (flat_map f (take at ys)))
+      subst (λ z. AreAddable scope z (f x)) (with_both scope b (f y) (flat_map f (take at ys)))
       (room_at (with_statements scope b (f y)) ys at x (omega (arith, within)) is (room_back scope b (f y) (flat_map f ys) room))
 
   pub room_for_task : (b c : Builder) (xs : List A) (at : ℕ) (x : A) → at < length xs → x ≡ get_or xs at x → c ≡ with_statements scope b (flat_map f (take at xs))
-      → HasRoomFor scope b (flat_map f xs) → HasRoomFor scope c (f x)
-  room_for_task b c xs at x within is h room = subst (λ z. HasRoomFor scope z (f x)) (sym h) (room_at b xs at x within is room)
+      → AreAddable scope b (flat_map f xs) → AreAddable scope c (f x)
+  room_for_task b c xs at x within is h room = subst (λ z. AreAddable scope z (f x)) (sym h) (room_at b xs at x within is room)

@@ -22,8 +22,7 @@ use Rattle.pts_points.specs.Widths.{small}
 use Rattle.pts_points.specs.Lines.{line_of_range, no_loop, space_of}
 use Rattle.pts_points.specs.Pieces.{Piece, taken}
 use Rattle.pts_points.specs.Points.{call_piece, loop_piece, statement_piece}
-use Rattle.pts_points.specs.Fits.{offs_among}
-use Rattle.pts_points.specs.Building.{Adds, HasOffs, IsIdle, IsKept, HasRoomFor, ended, kept_line, task_statements, with_statements}
+use Rattle.pts_points.specs.Building.{Adds, IsIdle, IsKept, AreAddable, ended, kept_line, task_statements, with_statements, offs_among}
 use Rattle.pts_points.proofs.StatementTurns.{call_done, with_none}
 
 pub task-Run : (xs : List TaskStmt) → task_statements (t.Run xs) ≡ flat_map task_statements xs
@@ -60,7 +59,7 @@ task-Block x = tasks.statements-Block x ∙ block_body x
 
 -- ---- calls and loops at their end
 
-pub call_ended : (scope : Scope) (b m c d : Builder) (x : call.Call) (line : Line) (number before : ℕ) → HasRoomFor scope b (Call x ∷ [])
+pub call_ended : (scope : Scope) (b m c d : Builder) (x : call.Call) (line : Line) (number before : ℕ) → AreAddable scope b (Call x ∷ [])
     → before ≡ length b.points → number ≡ b.earlier + length b.calls → m ≡ record b { call = Some number } → Adds m c (call_piece scope x) → line ≡ kept_line (line_of_range scope x.first)
     → d ≡ ended c x.policy line.n before → d ≡ with_statements scope b (Call x ∷ [])
 call_ended scope b m c d x line number before room is_before is_number inside h is_line e =
@@ -68,7 +67,7 @@ call_ended scope b m c d x line number before room is_before is_number inside h 
     (subst (λ z. Adds z c (call_piece scope x)) (inside ∙ (λ i. record b { call = Some (is_number i) })) h)
     (e ∙ (λ i. ended c x.policy line.n (is_before i)))
 
-pub loop_ended : (scope : Scope) (b m c d : Builder) (x : loops.Loop) (space : IterationSpace) (positions number before : ℕ) → HasRoomFor scope b (Loop x ∷ [])
+pub loop_ended : (scope : Scope) (b m c d : Builder) (x : loops.Loop) (space : IterationSpace) (positions number before : ℕ) → AreAddable scope b (Loop x ∷ [])
     → before ≡ length b.points → number ≡ b.earlier + length b.calls → space ≡ space_of scope x → positions ≡ small space.positions
     → m ≡ record b { call = Some number; space = space } → Adds m c (loop_piece scope x)
     → d ≡ ended c x.policy positions before → d ≡ with_statements scope b (Loop x ∷ [])
@@ -77,26 +76,21 @@ loop_ended scope b m c d x space positions number before room is_before is_numbe
     (subst (λ z. Adds z c (loop_piece scope x)) (inside ∙ (λ i. record b { call = Some (is_number i); space = space })) h)
     (e ∙ (λ i. ended c x.policy positions (is_before i)))
 
-pub loop_has_room : (scope : Scope) (b m : Builder) (x : loops.Loop) → HasRoomFor scope b (Loop x ∷ []) → m.off ≡ b.off → m.offs ≡ b.offs → HasOffs m (loop_piece scope x)
-loop_has_room scope b m x room off offs =
-    let h = room.offs in
-    subst (λ z. z < 2 ^ 32) (sym ((λ i. taken ((off ∙ room.idle.off) i) (loop_piece scope x).offs (offs i)))) (omega (arith, h))
-
 -- ---- forms
 
 module _ (scope : Scope) (b c : Builder) (x : TaskStmt) (y : TaskStmt) (zs : List Simple) (is : x ≡ y) (same : task_statements y ≡ zs) where
   pub by_form : c ≡ with_statements scope b zs → c ≡ with_statements scope b (task_statements x)
   by_form h = h ∙ ap (with_statements scope b) (sym (ap task_statements is ∙ same))
 
-  pub room_by_form : HasRoomFor scope b (task_statements x) → HasRoomFor scope b zs
-  room_by_form h = subst (HasRoomFor scope b) (ap task_statements is ∙ same) h
+  pub room_by_form : AreAddable scope b (task_statements x) → AreAddable scope b zs
+  room_by_form h = subst (AreAddable scope b) (ap task_statements is ∙ same) h
 
 module _ (scope : Scope) (b c : Builder) (x : Item) (y : Item) (zs : List Simple) (is : x ≡ y) (same : statements y ≡ zs) where
   pub item_by_form : c ≡ with_statements scope b zs → c ≡ with_statements scope b (statements x)
   item_by_form h = h ∙ ap (with_statements scope b) (sym (ap statements is ∙ same))
 
-  pub item_room : HasRoomFor scope b (statements x) → HasRoomFor scope b zs
-  item_room h = subst (HasRoomFor scope b) (ap statements is ∙ same) h
+  pub item_room : AreAddable scope b (statements x) → AreAddable scope b zs
+  item_room h = subst (AreAddable scope b) (ap statements is ∙ same) h
 
 -- a statement without points and calls
 pub with_throw : (scope : Scope) (b : Builder) (n : ℕ) → b ≡ with_statements scope b (Throw n ∷ [])

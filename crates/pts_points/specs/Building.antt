@@ -1,6 +1,6 @@
 -- What the code that makes the points of an item holds, for the contracts of its parts alone: points in the widths that
 -- lists keep. The numbers of a sound item are within these widths, so that nothing of it is cut.
-use Rattle.std.specs.Prelude.{◌≡◌, ℕ, ◌+◌, ◌-◌, ◌<◌, ◌^◌, ◌≤ℤ◌, unwrap_or, Option, Some, None, List, [], ◌∷◌, ◌++◌, length, map, flat_map, ℤ, pos}
+use Rattle.std.specs.Prelude.{◌≡◌, ℕ, ◌+◌, ◌-◌, ◌≤ℤ◌, unwrap_or, Option, Some, None, List, [], ◌∷◌, ◌++◌, length, map, flat_map, ℤ, pos}
 use Rattle.pts_types.specs.declared.operation.Policy.{Policy}
 use Rattle.pts_types.specs.Arithmetic.{least_i64, greatest_i64}
 use Rattle.pts_affine.specs.declared.line.Line.{Line}
@@ -24,8 +24,7 @@ use Rattle.pts_points.specs.declared.builder.Test.{Test}
 use Rattle.pts_points.specs.declared.builder.Builder.{Builder}
 use Rattle.pts_points.specs.Lines.{line_of_range, line_of_cell, space_of, no_line, no_loop}
 use Rattle.pts_points.specs.Pieces.{LetPoint, Context, Deed, Reads, Point, Piece, taken, served, under}
-use Rattle.pts_points.specs.Points.{array_at, reads_of, index_of, form_of, array_of, line_of_deed, points_from, calls_from}
-use Rattle.pts_points.specs.Fits.{offs_among, calls_among}
+use Rattle.pts_points.specs.Points.{array_at, reads_of, index_of, form_of, array_of, line_of_deed, statement_piece, calls_in, points_from, calls_from}
 use Rattle.pts_points.specs.Widths.{small, clamp}
 
 -- ---- what is kept
@@ -93,10 +92,6 @@ pub record AddsUnder (test : Test) (old new : Builder) (x : Piece) : Type 0 wher
 abbrev pub element_piece : Scope → IterationSpace → Name → Expr → Piece
 element_piece scope space name x = served (reads_of scope space x) (λ context n. Reads (array_at scope name) (index_of scope space x context n))
 
--- the numbers of `off` of a piece have 32 bits
-abbrev pub HasOffs : Builder → Piece → Type 0
-HasOffs b x = taken b.off x.offs b.offs < 2 ^ 32
-
 -- one point more
 abbrev pub pushed : Builder → PointForm → ℕ → Line → Builder
 pushed b form array line =
@@ -153,6 +148,19 @@ pub record IsIdle (b : Builder) : Type 0 where
   pub off : b.off ≡ None
   pub space : b.space ≡ no_loop
 
+-- how many points, numbers of `off` and calls statements have
+abbrev pub points_among : Scope → List Simple → ℕ
+points_among scope [] = 0
+points_among scope (x ∷ xs) = (statement_piece scope x).size + points_among scope xs
+
+abbrev pub offs_among : Scope → List Simple → ℕ
+offs_among scope [] = 0
+offs_among scope (x ∷ xs) = (statement_piece scope x).offs + offs_among scope xs
+
+abbrev pub calls_among : List Simple → ℕ
+calls_among [] = 0
+calls_among (x ∷ xs) = calls_in x + calls_among xs
+
 -- statements more
 abbrev pub with_statements : Scope → Builder → List Simple → Builder
 with_statements scope b xs =
@@ -197,9 +205,7 @@ abbrev pub AreKept : Scope → List Simple → Type 0
 AreKept scope [] = Unit {0}
 AreKept scope (x ∷ xs) = IsKeptIn scope x × AreKept scope xs
 
--- statements whose numbers of `off` and calls have 32 bits behind those before them
-pub record HasRoomFor (scope : Scope) (b : Builder) (xs : List Simple) : Type 0 where
+-- statements that can be added, where nothing stands around them
+pub record AreAddable (scope : Scope) (b : Builder) (xs : List Simple) : Type 0 where
   pub idle : IsIdle b
   pub kept : AreKept scope xs
-  pub offs : b.offs + offs_among scope xs < 2 ^ 32
-  pub calls : b.earlier + length b.calls + calls_among xs < 2 ^ 32

@@ -1,5 +1,4 @@
 pub mod Building
-pub mod Fits
 pub mod Inside
 pub mod Lines
 pub mod Pieces

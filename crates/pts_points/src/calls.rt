@@ -159,8 +159,7 @@ impl Builder {
 
     /// The points of a loop whose index runs as it does here.
     pub fn loop_points(&mut self, alloc: Global, scope: &Scope, x: &Loop) -> Result<(), AllocError>
-        requires space { self.old.space ≡ space_of scope.now x.now }
-        requires room { spec.HasOffs self.old (points.loop_piece scope.now x.now) }
+        requires { self.old.space ≡ space_of scope.now x.now }
         ensures { OnOk result (spec.Adds self.old self.new (points.loop_piece scope.now x.now)) }
     {
         self.clauses(alloc, scope, x.clauses.as_slice())?;

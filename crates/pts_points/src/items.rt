@@ -2,7 +2,6 @@
 
 ghost use Rattle.std.specs.Prelude.{◌≡◌, ◌+◌, ◌<◌, ◌^◌, [], ◌∷◌, flat_map, length, All, IfOk, OnOk};
 ghost use Rattle.pts_points.specs.Building as spec;
-ghost use Rattle.pts_points.specs.Fits.{Fits};
 ghost use Rattle.pts_points.specs.Inside.{HasRoom, IsSound};
 ghost use Rattle.pts_points.specs.Points as points;
 ghost use Rattle.pts_rules.specs.Parts as parts;
@@ -27,11 +26,14 @@ pub struct ItemPoints {
 
 impl Builder {
     // The number of the next call.
-    fn next_call(&self) -> u32
-        requires { self.now.earlier + length self.now.calls < 2 ^ 32 }
-        ensures { result ≡ self.now.earlier + length self.now.calls }
+    fn next_call(&self) -> Result<u32, AllocError>
+        ensures { IfOk result (λ n. n ≡ self.now.earlier + length self.now.calls) }
     {
-        self.earlier + self.calls.len() as u32
+        let number = u128::from(self.earlier) + self.calls.len() as u128;
+        if number > u128::from(u32::MAX) {
+            return Err(AllocError);
+        }
+        Ok(number as u32)
     }
 
     // The end of a call of so many positions, whose points stand behind the first `before`.
@@ -66,22 +68,24 @@ impl Builder {
     }
 
     fn add_call(&mut self, alloc: Global, scope: &Scope, call: &Call) -> Result<(), AllocError>
-        requires { spec.HasRoomFor scope.now self.old (parts.Call call.now ∷ []) }
+        requires { spec.AreAddable scope.now self.old (parts.Call call.now ∷ []) }
         ensures { OnOk result (self.new ≡ spec.with_statements scope.now self.old (parts.Call call.now ∷ [])) }
     {
         let before = self.points.len();
-        self.call = Some(self.next_call());
+        let number = self.next_call()?;
+        self.call = Some(number);
         self.call_points(alloc, scope, call)?;
         let positions = line_of_range(scope, &call.first).n;
         self.end_call(call.policy, positions, before)
     }
 
     fn add_loop(&mut self, alloc: Global, scope: &Scope, x: &Loop) -> Result<(), AllocError>
-        requires { spec.HasRoomFor scope.now self.old (parts.Loop x.now ∷ []) }
+        requires { spec.AreAddable scope.now self.old (parts.Loop x.now ∷ []) }
         ensures { OnOk result (self.new ≡ spec.with_statements scope.now self.old (parts.Loop x.now ∷ [])) }
     {
         let before = self.points.len();
-        self.call = Some(self.next_call());
+        let number = self.next_call()?;
+        self.call = Some(number);
         self.space = space_of(alloc, scope, x)?;
         let positions = small(self.space.positions);
         self.loop_points(alloc, scope, x)?;
@@ -95,7 +99,7 @@ impl Builder {
         scope: &Scope,
         stmts: &[TaskStmt],
     ) -> Result<(), AllocError>
-        requires { spec.HasRoomFor scope.now self.old (flat_map spec.task_statements stmts.now) }
+        requires { spec.AreAddable scope.now self.old (flat_map spec.task_statements stmts.now) }
         ensures { OnOk result (self.new ≡ spec.with_statements scope.now self.old (flat_map spec.task_statements stmts.now)) }
     {
         for stmt in stmts {
@@ -106,7 +110,7 @@ impl Builder {
 
     #[cycle(tasks)]
     fn add_task(&mut self, alloc: Global, scope: &Scope, stmt: &TaskStmt) -> Result<(), AllocError>
-        requires { spec.HasRoomFor scope.now self.old (spec.task_statements stmt.now) }
+        requires { spec.AreAddable scope.now self.old (spec.task_statements stmt.now) }
         ensures { OnOk result (self.new ≡ spec.with_statements scope.now self.old (spec.task_statements stmt.now)) }
     {
         match stmt {
@@ -121,7 +125,7 @@ impl Builder {
     }
 
     fn add_item(&mut self, alloc: Global, scope: &Scope, item: &Item) -> Result<(), AllocError>
-        requires { spec.HasRoomFor scope.now self.old (parts.statements item.now) }
+        requires { spec.AreAddable scope.now self.old (parts.statements item.now) }
         ensures { OnOk result (self.new ≡ spec.with_statements scope.now self.old (parts.statements item.now)) }
     {
         match item {
@@ -145,7 +149,7 @@ fn build_item(
 ) -> Result<ItemPoints, AllocError>
     requires room { HasRoom scope.now }
     requires sound { All (IsSound scope.now) (parts.statements item.now) }
-    requires fits { Fits scope.now earlier item.now }
+    requires few { length (points.item_points scope.now earlier item.now) < 2 ^ 32 }
     ensures points { IfOk result (λ x. x.points ≡ points.points_of scope.now number earlier item.now) }
     ensures calls { IfOk result (λ x. x.calls ≡ points.calls_of scope.now number earlier item.now) }
 {
@@ -156,7 +160,7 @@ fn build_item(
 }
 
 /// The points and the calls of a sound item, in text order. The item has this number, and `earlier` calls stand before its
-/// own.
+/// own. There is no room for calls, or for an `off`, whose number has more than 32 bits.
 pub fn item_points(
     alloc: Global,
     scope: &Scope,
@@ -166,7 +170,7 @@ pub fn item_points(
 ) -> Result<ItemPoints, NoMemory>
     requires room { HasRoom scope.now }
     requires sound { All (IsSound scope.now) (parts.statements item.now) }
-    requires fits { Fits scope.now earlier item.now }
+    requires few { length (points.item_points scope.now earlier item.now) < 2 ^ 32 }
     ensures points { IfOk result (λ x. x.points ≡ points.points_of scope.now number earlier item.now) }
     ensures calls { IfOk result (λ x. x.calls ≡ points.calls_of scope.now number earlier item.now) }
 {

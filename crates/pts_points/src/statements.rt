@@ -1,9 +1,9 @@
 //! The points of the statements of a loop's body.
 
-ghost use Rattle.std.specs.Prelude.{◌≡◌, ◌+◌, ◌<◌, ◌^◌, length, IfOk, OnOk};
+ghost use Rattle.std.specs.Prelude.{◌≡◌, ◌+◌, length, IfOk, OnOk};
 ghost use Rattle.pts_types.specs.declared.operation.ScalarOp.{ScalarOp};
 ghost use Rattle.pts_points.specs.Building as spec;
-ghost use Rattle.pts_points.specs.Pieces.{served, served_off, off_vector, taken};
+ghost use Rattle.pts_points.specs.Pieces.{served, served_off, off_vector};
 ghost use Rattle.pts_points.specs.Points.{reads_of, both_reads, assign_deed, update_deed, stmt_piece, body_piece};
 
 use crate::builder::{Builder, Test};
@@ -77,14 +77,17 @@ impl Builder {
     }
 
     // Back from off the vector: the `off` that stood around it, and the next number where there was none.
-    fn back_on(&mut self, off: Option<u32>)
-        requires { taken off 1 self.old.offs < 2 ^ 32 }
-        ensures { self.new ≡ spec.back_on off self.old }
+    fn back_on(&mut self, off: Option<u32>) -> Result<(), AllocError>
+        ensures { OnOk result (self.new ≡ spec.back_on off self.old) }
     {
         if off.is_none() {
+            if self.offs == u32::MAX {
+                return Err(AllocError);
+            }
             self.offs += 1;
         }
         self.off = off;
+        Ok(())
     }
 
     fn update(
@@ -94,14 +97,13 @@ impl Builder {
         place: &Place,
         value: &Expr,
     ) -> Result<(), AllocError>
-        requires { taken self.old.off ((both_reads scope.now self.old.space place.now value.now).offs + 1) self.old.offs < 2 ^ 32 }
         ensures { OnOk result ((op : ScalarOp) → spec.Adds self.old self.new (served_off (both_reads scope.now self.old.space place.now value.now) (update_deed scope.now self.old.space place.now op value.now))) }
     {
         let around = self.off;
         self.both(alloc, scope, place, value)?;
         self.leave_vector();
         self.push_place(alloc, scope, PointForm::Update, place)?;
-        self.back_on(around);
+        self.back_on(around)?;
         Ok(())
     }
 
@@ -114,7 +116,6 @@ impl Builder {
         test: Test,
         body: &[BodyStmt],
     ) -> Result<(), AllocError>
-        requires { spec.HasOffs self.old (body_piece scope.now self.old.space body.now) }
         ensures { OnOk result (spec.AddsUnder test self.old self.new (body_piece scope.now self.old.space body.now)) }
     {
         let mut inner = Items::from_slice(alloc, self.branches.as_slice())?;
@@ -132,14 +133,12 @@ impl Builder {
         scope: &Scope,
         body: &[BodyStmt],
     ) -> Result<(), AllocError>
-        requires { spec.HasOffs self.old (off_vector (body_piece scope.now self.old.space body.now)) }
         ensures { OnOk result (spec.Adds self.old self.new (off_vector (body_piece scope.now self.old.space body.now))) }
     {
         let off = self.off;
         self.leave_vector();
         self.body(alloc, scope, body)?;
-        self.back_on(off);
-        Ok(())
+        self.back_on(off)
     }
 
     /// The points of statements, one behind the other.
@@ -150,7 +149,6 @@ impl Builder {
         scope: &Scope,
         body: &[BodyStmt],
     ) -> Result<(), AllocError>
-        requires { spec.HasOffs self.old (body_piece scope.now self.old.space body.now) }
         ensures { OnOk result (spec.Adds self.old self.new (body_piece scope.now self.old.space body.now)) }
     {
         for stmt in body {
@@ -161,7 +159,6 @@ impl Builder {
 
     #[cycle(body)]
     fn stmt(&mut self, alloc: Global, scope: &Scope, stmt: &BodyStmt) -> Result<(), AllocError>
-        requires { spec.HasOffs self.old (stmt_piece scope.now self.old.space stmt.now) }
         ensures { OnOk result (spec.Adds self.old self.new (stmt_piece scope.now self.old.space stmt.now)) }
     {
         match stmt {

@@ -1,20 +1,13 @@
-use Rattle.std.proofs.Common.{[], ◌∷◌, ◌++◌, ap, ◌∙◌, arith}
+use Rattle.std.proofs.Common.{[], ◌∷◌, ◌++◌, ap, ◌∙◌}
 use Rattle.std.proofs.lemmas.Result.{on_ok_weaker}
 use Rattle.pts_points.specs.Points.{stmt_piece, body_piece}
 use Rattle.pts_points.proofs.Builds.{adds_nothing, adds_branch}
 use Rattle.pts_points.proofs.Turns.{adds_all}
-use Rattle.pts_points.proofs.Weights.{weight, weights, weight_below, first_lighter, second_lighter, weight-VecOff}
-use Rattle.pts_points.proofs.BodyTurns.{body_turn, room_for_turn, off_added, off_room_back, off_room_in, in-Assign, in-Let, in-Combine, in-If-else, in-If-alone, in-VecOff, in-Ordered, room-If, room-else, room-VecOff, room-Ordered}
+use Rattle.pts_points.proofs.BodyTurns.{body_turn, off_added, in-Assign, in-Let, in-Combine, in-If-else, in-If-alone, in-VecOff, in-Ordered}
 use Rattle.pts_points.proofs.builder.Builder.«+body».Goals as goal
 
 pub body-loop-stmt-init : goal.body-loop-stmt-init
 body-loop-stmt-init t c = adds_nothing c.args.self.now
-
-pub body-stmt-requires : goal.body-stmt-requires
-body-stmt-requires t c = (
-  omega (arith, c.decreases, weight_below c.args.body.now c.loop-stmt.stmt-index c.stmt-item.result c.loop-stmt-test.true c.stmt-item.is),
-  room_for_turn c.args.scope.now c.args.self.now c.loop-stmt.self c.loop-stmt.self c.args.body.now c.loop-stmt.stmt-index c.stmt-item.result c.loop-stmt-test.true c.stmt-item.is c.loop-stmt.invariant c.requires,
-)
 
 pub body-loop-stmt-preserved : goal.body-loop-stmt-preserved
 body-loop-stmt-preserved t c =
@@ -22,27 +15,6 @@ body-loop-stmt-preserved t c =
 
 pub body-returns : goal.body-returns
 body-returns t c = adds_all (stmt_piece c.args.scope.now c.args.self.now.space) c.args.self.now c.loop-stmt.self c.args.body.now c.loop-stmt.stmt-index c.loop-stmt-test.false c.loop-stmt.invariant
-
-pub off_vector-back_on-requires : goal.off_vector-back_on-requires
-off_vector-back_on-requires t c = off_room_back c.args.scope.now c.args.self.now c.leave_vector.new.self c.body.new.self c.args.body.now c.leave_vector.ensures c.in_ok-body.ensures c.requires
-
-pub off_vector-returns : goal.off_vector-returns
-off_vector-returns t c = off_added c.args.scope.now c.args.self.now c.leave_vector.new.self c.body.new.self c.back_on.new.self c.args.body.now c.leave_vector.ensures c.in_ok-body.ensures c.back_on.ensures
-
-pub stmt-branch-self-requires : goal.stmt-branch-self-requires
-stmt-branch-self-requires t c = (
-  omega (arith, c.decreases, ap weight c.in-If.is, first_lighter c.in-If.test c.in-If.body c.in-If.other, ap weights c.as_slice.ensures),
-  room-If c.args.scope.now c.args.self.now c.compute-in-If.new.self c.args.stmt.now c.in-If.test c.in-If.body c.as_slice.result.now c.in-If.other c.in-If.is c.as_slice.ensures c.in_ok-number-in-If.ensures.points c.requires,
-)
-
-pub stmt-off_vector-requires : goal.stmt-off_vector-requires
-stmt-off_vector-requires t c = (
-  omega (arith, c.decreases, ap weight c.in-VecOff.is, weight-VecOff c.in-VecOff.body, ap weights c.as_slice-in-VecOff.ensures),
-  room-VecOff c.args.scope.now c.args.self.now c.args.self.now c.args.stmt.now c.in-VecOff.body c.as_slice-in-VecOff.result.now c.in-VecOff.is c.as_slice-in-VecOff.ensures c.requires,
-)
-
-pub stmt-update-requires : goal.stmt-update-requires
-stmt-update-requires t c = room-Ordered c.args.scope.now c.args.self.now c.args.self.now c.args.stmt.now c.in-Ordered.place c.in-Ordered.field-1 c.in-Ordered.value c.in-Ordered.is c.requires
 
 pub stmt-returns-in-Assign : goal.stmt-returns-in-Assign
 stmt-returns-in-Assign t c =
@@ -63,15 +35,6 @@ pub stmt-returns-in-Ordered : goal.stmt-returns-in-Ordered
 stmt-returns-in-Ordered t c =
     on_ok_weaker c.update.result (in-Ordered c.args.scope.now c.args.self.now c.update.new.self c.args.stmt.now c.in-Ordered.place c.in-Ordered.field-1 c.in-Ordered.value c.in-Ordered.is) c.update.ensures
 
-pub stmt-branch-self-requires-in-Some : goal.stmt-branch-self-requires-in-Some
-stmt-branch-self-requires-in-Some t c = (
-  omega (arith, c.decreases, ap weight c.in-If.is, second_lighter c.in-If.test c.in-If.body c.in-Some.other c.in-If.other c.in-Some.is, ap weights c.as_slice-in-Some.ensures),
-  room-else c.args.scope.now c.args.self.now c.compute-in-If.new.self c.args.stmt.now c.in-If.test c.in-If.body c.as_slice.result.now c.in-If.other c.in-If.is c.as_slice.ensures c.in_ok-number-in-If.ensures.points c.branch-self.new.self c.in_ok-number-in-If.number c.in-Some.other c.as_slice-in-Some.result.now c.in-Some.is c.as_slice-in-Some.ensures c.in_ok-branch-in-If.ensures c.requires,
-)
-
-pub off_vector-body-requires : goal.off_vector-body-requires
-off_vector-body-requires t c = (omega (arith, c.decreases), off_room_in c.args.scope.now c.args.self.now c.leave_vector.new.self c.args.body.now c.leave_vector.ensures c.requires)
-
 pub branch-returns : goal.branch-returns
 branch-returns t c =
     adds_branch c.args.test c.args.self.now c.body.new.self (body_piece c.args.scope.now c.args.self.now.space c.args.body.now) c.replace-outer.new.dest c.replace-outer.result
@@ -84,3 +47,7 @@ stmt-returns-in_ok-branch-in-If-2 t c =
 
 pub stmt-returns-in_default : goal.stmt-returns-in_default
 stmt-returns-in_default t c = in-If-alone c.args.scope.now c.args.self.now c.compute-in-If.new.self c.args.stmt.now c.in-If.test c.in-If.body c.as_slice.result.now c.in-If.other c.in-If.is c.as_slice.ensures c.in_ok-number-in-If.ensures.points c.branch-self.new.self c.in_ok-number-in-If.number c.in_default.is c.in_ok-number-in-If.ensures.number c.in_ok-branch-in-If.ensures
+
+pub off_vector-returns : goal.off_vector-returns
+off_vector-returns t c =
+    on_ok_weaker c.back_on.result (off_added c.args.scope.now c.args.self.now c.leave_vector.new.self c.body.new.self c.back_on.new.self c.args.body.now c.leave_vector.ensures c.in_ok-body.ensures) c.back_on.ensures
