@@ -1,8 +1,7 @@
 -- How the points of statements of a body are added, form by form.
-use Rattle.std.proofs.Common.{◌≡◌, ℕ, zero, suc, ◌+◌, ◌<◌, ◌≤◌, ◌^◌, Option, Some, None, List, [], ◌∷◌, map, length, get_or, take, pos, refl, sym, ap, subst, ◌∙◌, arith}
-use Rattle.std.specs.Prelude.{true, false, unwrap_or}
+use Rattle.std.proofs.Common.{◌≡◌, ℕ, ◌+◌, ◌<◌, Option, Some, None, List, [], length, get_or, take, pos, refl, sym, ap, subst, ◌∙◌}
+use Rattle.std.specs.Prelude.{true, false}
 use Rattle.pts_types.specs.declared.operation.ScalarOp.{ScalarOp}
-use Rattle.pts_affine.specs.declared.line.Line.{Line}
 use Rattle.pts_tree.specs.declared.expr.Expr.{Expr}
 use Rattle.pts_tree.specs.declared.expr.Place.{Place}
 use Rattle.pts_tree.specs.declared.loops.BodyStmt.{BodyStmt}
@@ -11,20 +10,17 @@ use Rattle.pts_rules.specs.Parts.{Name}
 use Rattle.pts_rules.specs.Known.{Scope}
 use Rattle.pts_points.specs.declared.space.IterationSpace.{IterationSpace}
 use Rattle.pts_points.specs.declared.builder.Builder.{Builder}
-use Rattle.pts_points.specs.declared.builder.Test.{Test}
-use Rattle.pts_points.specs.declared.point.PointForm.{PointForm}
 use Rattle.pts_points.specs.declared.point.PointForm.TheVariants.{Write, Update, Plain}
 use Rattle.pts_points.specs.Widths.{small}
-use Rattle.pts_points.specs.Pieces.{Context, Deed, Piece, taken, nothing, behind, sequence, served, served_off, off_vector, binding, branching}
-use Rattle.pts_points.specs.Points.{array_at, array_of, form_of, line_of_deed, reads_of, both_reads, assign_deed, update_deed, kind_of_let, stmt_piece, body_piece}
+use Rattle.pts_points.specs.Pieces.{Context, Deed, Piece, served, served_off, off_vector, binding, branching}
+use Rattle.pts_points.specs.Points.{array_at, line_of_deed, reads_of, both_reads, assign_deed, update_deed, kind_of_let, stmt_piece, body_piece}
 use Rattle.pts_points.specs.Building.{Adds, AddsUnder, AddsPlain, IsPlain, kept_line, line_of_index, pushed, pushed_at, off_builder, back_on}
 use Rattle.pts_points.proofs.StatementForms as forms
 use Rattle.pts_points.proofs.StatementForms.{note_deed, give_deed, test_deed, else_piece}
-use Rattle.pts_points.proofs.Standing.{Good, good_served}
 use Rattle.pts_points.proofs.Wholes.{good_reads, good_both, good_body, good_stmt, tests_good}
-use Rattle.pts_points.proofs.Builds.{IsShownAs, adds_nothing, adds_behind, adds_served, adds_served_off, adds_off_vector, adds_binding, adds_under_nothing, adds_branching, taken_both}
-use Rattle.pts_points.proofs.Turns.{same_space, adds_turn, adds_all}
-use Rattle.pts_points.proofs.ReadTurns.{index_shown, same_reads, then_reads}
+use Rattle.pts_points.proofs.Builds.{adds_served, adds_served_off, adds_off_vector, adds_binding, adds_under_nothing, adds_branching}
+use Rattle.pts_points.proofs.Turns.{same_space, adds_turn}
+use Rattle.pts_points.proofs.ReadTurns.{index_shown, then_reads}
 
 -- ---- places
 

@@ -1,5 +1,5 @@
 -- How pieces are added one behind the other.
-use Rattle.std.proofs.Common.{◌≡◌, ℕ, zero, suc, ◌+◌, Option, Some, None, List, [], ◌∷◌, ◌++◌, map, length, refl, sym, ap, subst, ◌∙◌, append_assoc, length-append, arith}
+use Rattle.std.proofs.Common.{◌≡◌, ℕ, suc, ◌+◌, Option, Some, None, List, [], ◌∷◌, ◌++◌, map, length, refl, sym, ap, subst, ◌∙◌, append_assoc, length-append, arith}
 use Rattle.std.specs.Prelude.{Bool, true, false, unwrap_or}
 use Rattle.pts_types.specs.declared.value.Kind.{Kind}
 use Rattle.pts_affine.specs.declared.line.Line.{Line}
@@ -7,14 +7,13 @@ use Rattle.pts_rules.specs.Known.{Scope}
 use Rattle.pts_rules.specs.Parts.{Name}
 use Rattle.pts_points.specs.declared.point.PointForm.{PointForm}
 use Rattle.pts_points.specs.declared.point.PointInfo.{PointInfo}
-use Rattle.pts_points.specs.declared.point.Branch.{Branch}
 use Rattle.pts_points.specs.declared.builder.Test.{Test}
 use Rattle.pts_points.specs.declared.builder.Builder.{Builder}
-use Rattle.pts_points.specs.Pieces.{LetPoint, Context, Deed, Point, Piece, taken, seeing, nothing, behind, served, served_off, off_from, off_vector, binding, under, branching}
+use Rattle.pts_points.specs.Pieces.{LetPoint, Context, Deed, Point, Piece, taken, nothing, behind, served, served_off, off_vector, binding, under, branching}
 use Rattle.pts_points.specs.Points.{form_of, array_of, line_of_deed}
 use Rattle.pts_points.specs.Widths.{small}
 use Rattle.pts_points.specs.Building.{kept_line, kept_branch, kept_info, branch_of, context_at, with_points, Adds, AddsUnder, pushed, off_builder, back_on}
-use Rattle.pts_points.proofs.Standing.{Good, good_nothing, good_served, AllEnd}
+use Rattle.pts_points.proofs.Standing.{Good, good_nothing}
 use Rattle.pts_points.proofs.PointLists.{length_is}
 
 -- ---- lists

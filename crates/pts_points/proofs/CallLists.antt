@@ -1,5 +1,5 @@
 -- Which points are those of a call.
-use Rattle.std.proofs.Common.{◌≡◌, ℕ, zero, suc, ◌+◌, ◌<◌, ◌≤◌, ◌⊎◌, inl, inr, ⊎_elim, Option, Some, None, List, [], ◌∷◌, ◌++◌, map, length, refl, sym, ap, subst, ◌∙◌, length-append, arith}
+use Rattle.std.proofs.Common.{◌≡◌, ℕ, zero, suc, ◌+◌, ◌<◌, ◌≤◌, ⊎_elim, Option, Some, None, List, [], ◌∷◌, ◌++◌, length, refl, sym, ap, subst, ◌∙◌, arith}
 use Rattle.std.specs.Prelude.{◌↔◌, ◌-◌, slice_get}
 use Rattle.std.proofs.lemmas.Bool.{cases_lt}
 use Rattle.std.proofs.lemmas.Option.{slice_get_within}
@@ -16,7 +16,7 @@ use Rattle.pts_points.proofs.Each.{Each, both, weaker, at_place}
 use Rattle.pts_points.proofs.Wholes.{good_statement}
 use Rattle.pts_points.proofs.Builds.{sized, map_length}
 use Rattle.pts_points.proofs.StatementTurns.{points_count}
-use Rattle.pts_points.proofs.PointLists.{IsShown, shown_at}
+use Rattle.pts_points.proofs.PointLists.{shown_at}
 
 -- ---- places in lists that are joined
 

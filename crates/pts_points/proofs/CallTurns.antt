@@ -1,9 +1,8 @@
 -- How the points of calls and loops are added.
-use Rattle.std.proofs.Common.{◌≡◌, ℕ, ◌+◌, ◌<◌, ◌≤◌, ◌^◌, Option, Some, None, List, [], ◌∷◌, map, length, get_or, take, refl, sym, ap, subst, ◌∙◌, arith}
+use Rattle.std.proofs.Common.{◌≡◌, ℕ, ◌+◌, ◌<◌, Option, Some, None, List, map, length, get_or, take, sym, ap, subst, ◌∙◌}
 use Rattle.pts_tree.specs.declared.sum.Range.{Range}
 use Rattle.pts_tree.specs.declared.sum.Cell.{Cell}
 use Rattle.pts_tree.specs.declared.call.Call as call
-use Rattle.pts_tree.specs.declared.call.CallForm.{CallForm}
 use Rattle.pts_tree.specs.declared.loops.Loop as loops
 use Rattle.pts_tree.specs.declared.loops.Clause.{Clause}
 use Rattle.pts_tree.specs.declared.loops.BodyStmt.{BodyStmt}
@@ -11,13 +10,13 @@ use Rattle.pts_rules.specs.Known.{Scope}
 use Rattle.pts_points.specs.declared.builder.Builder.{Builder}
 use Rattle.pts_points.specs.declared.point.PointForm.TheVariants.{Read, Write, LiveOut, Into}
 use Rattle.pts_points.specs.Lines.{line_of_range, line_of_cell, space_of}
-use Rattle.pts_points.specs.Pieces.{Along, Reads, Fills, LivesOut, Answers, Piece, taken, nothing, behind, sequence}
+use Rattle.pts_points.specs.Pieces.{Along, Reads, Fills, LivesOut, Answers, Piece, behind, sequence}
 use Rattle.pts_points.specs.Points.{array_at, body_piece, live_out, clause_piece, loop_piece, source_piece, target_piece, answer_piece, piece_of, own_piece, call_piece}
 use Rattle.pts_points.specs.Building.{Adds, pushed_range, pushed_cell}
-use Rattle.pts_points.proofs.Standing.{Good, good_nothing, good_behind}
-use Rattle.pts_points.proofs.Wholes.{good_source, good_target, good_answer, good_own, good_piece_of, good_clause, good_clauses}
+use Rattle.pts_points.proofs.Standing.{good_behind}
+use Rattle.pts_points.proofs.Wholes.{good_source, good_target, good_own, good_piece_of, good_clause, good_clauses}
 use Rattle.pts_points.proofs.Builds.{adds_nothing, adds_behind, adds_alone}
-use Rattle.pts_points.proofs.Turns.{same_space, adds_turn, adds_all}
+use Rattle.pts_points.proofs.Turns.{same_space, adds_turn}
 
 module _ (scope : Scope) (b c : Builder) where
   pub source_added : (x : Range) → c ≡ pushed_range scope b Read x → Adds b c (source_piece scope x)

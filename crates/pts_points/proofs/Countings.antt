@@ -1,22 +1,19 @@
 -- An index that is a line reads no elements, so that a statement has the points that the rules count.
-use Rattle.std.proofs.Common.{◌≡◌, ℕ, ◌+◌, Bool, false, ℤ, Option, Some, None, List, [], ◌∷◌, ◌++◌, map, length, sum, refl, sym, ap, subst, ◌∙◌, arith}
-use Rattle.std.specs.Prelude.{◌||◌, fold, flat_map, is_none, option_and_then}
+use Rattle.std.proofs.Common.{◌≡◌, ℕ, ◌+◌, false, ℤ, Option, Some, None, List, [], ◌∷◌, ◌++◌, map, length, sum, refl, sym, subst, ◌∙◌, arith}
+use Rattle.std.specs.Prelude.{fold, flat_map, is_none}
 use Rattle.std.specs.List.{list_any}
 use Rattle.std.proofs.lemmas.Bool.{or_parts}
 use Rattle.std.proofs.lemmas.List.Sums.{sum_by-cons}
 use Rattle.pts_types.specs.declared.operation.ScalarOp.{ScalarOp}
-use Rattle.pts_tree.specs.declared.call.Call as call
 use Rattle.pts_tree.specs.declared.call.CallForm.{CallForm}
 use Rattle.pts_tree.specs.declared.call.CallForm.TheVariants as calls
 use Rattle.pts_tree.specs.declared.sum.Range.{Range}
-use Rattle.pts_tree.specs.declared.sum.Cell.{Cell}
 use Rattle.pts_tree.specs.declared.expr.Expr.{Expr, roll-Expr}
 use Rattle.pts_tree.specs.declared.expr.Expr.TheOpen.{Expr-F}
 use Rattle.pts_tree.specs.declared.expr.Expr.TheVariants as e
 use Rattle.pts_tree.specs.declared.expr.Expr.TheFolds.{map-Expr, ind-Expr}
 use Rattle.pts_tree.specs.declared.expr.ChainPart.{ChainPart}
 use Rattle.pts_tree.specs.declared.expr.Place.{Place}
-use Rattle.pts_tree.specs.declared.loops.Loop as loops
 use Rattle.pts_tree.specs.declared.loops.Clause.{Clause}
 use Rattle.pts_tree.specs.declared.loops.Clause.TheVariants as clauses
 use Rattle.pts_tree.specs.declared.loops.Initial.{Initial}
@@ -34,7 +31,7 @@ use Rattle.pts_points.specs.declared.space.IterationSpace.{IterationSpace}
 use Rattle.pts_points.specs.Lines.{space_of, no_loop}
 use Rattle.pts_points.specs.Building.{points_among}
 use Rattle.pts_points.specs.Pieces.{Piece, sequence}
-use Rattle.pts_points.specs.Points.{body_piece, clause_piece, initial_piece, own_piece, piece_of, source_piece, target_piece, answer_piece, loop_piece, call_piece, statement_piece, item_points}
+use Rattle.pts_points.specs.Points.{body_piece, clause_piece, initial_piece, own_piece, piece_of, source_piece, target_piece, answer_piece, statement_piece, item_points}
 use Rattle.pts_points.proofs.Each.{Each, front, back}
 use Rattle.pts_points.proofs.StatementForms.{by_bodies}
 use Rattle.pts_points.proofs.StatementTurns.{points_count}

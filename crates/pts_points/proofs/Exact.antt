@@ -1,5 +1,5 @@
 -- Nothing of a sound item is cut: what is kept is what the item has.
-use Rattle.std.proofs.Common.{◌≡◌, ℕ, ◌+◌, ◌-◌, ◌^◌, ◌<◌, ◌≤◌, List, [], ◌∷◌, ◌++◌, map, length, refl, sym, ap, subst, ◌∙◌, arith}
+use Rattle.std.proofs.Common.{◌≡◌, ℕ, ◌+◌, ◌-◌, ◌^◌, ◌<◌, ◌≤◌, List, [], ◌∷◌, ◌++◌, map, length, refl, ap, subst, ◌∙◌, arith}
 use Rattle.std.specs.Prelude.{All}
 use Rattle.std.proofs.lemmas.List.Elements.{All-head, All-tail}
 use Rattle.pts_tree.specs.declared.script.Item.{Item}
@@ -8,14 +8,12 @@ use Rattle.pts_rules.specs.Known.{Scope}
 use Rattle.pts_rules.specs.Counts.{loop_positions}
 use Rattle.pts_points.specs.declared.builder.Builder.{Builder}
 use Rattle.pts_points.specs.declared.point.Branch.{Branch}
-use Rattle.pts_points.specs.declared.point.PointInfo.{PointInfo}
-use Rattle.pts_points.specs.declared.point.CallInfo.{CallInfo}
 use Rattle.pts_points.specs.Lines.{line_of_range}
 use Rattle.pts_points.specs.Pieces.{Point}
 use Rattle.pts_points.specs.Points.{statement_piece, form_of, points_from, item_points, call_at, calls_from, info, points_of, calls_of}
 use Rattle.pts_points.specs.Inside.{HasRoom, IsSound}
 use Rattle.pts_points.specs.Standings.{Ascends}
-use Rattle.pts_points.specs.Building.{AreAddable, kept_branch, kept_call, kept_info, no_points, with_statements, points_among, offs_among, calls_among}
+use Rattle.pts_points.specs.Building.{AreAddable, kept_branch, kept_call, kept_info, no_points, with_statements, points_among}
 use Rattle.pts_points.proofs.Each.{Each}
 use Rattle.pts_points.proofs.Standing.{Numbered, IsRight}
 use Rattle.pts_points.proofs.PointLists.{numbered_from, right_from, length_is}

@@ -1,9 +1,8 @@
 -- The cells of every point lie in their arrays where the elements that are read and written do.
-use Rattle.std.proofs.Common.{◌≡◌, ℕ, ◌+◌, ◌-◌, ◌^◌, ◌<◌, ◌≤◌, ℤ, pos, ◌+ℤ◌, ◌*ℤ◌, Option, Some, None, List, [], ◌∷◌, ◌++◌, refl, sym, ap, subst, arith}
+use Rattle.std.proofs.Common.{◌≡◌, ℕ, ◌+◌, ◌-◌, ◌^◌, ◌≤◌, ℤ, pos, ◌+ℤ◌, ◌*ℤ◌, Option, Some, None, List, [], ◌∷◌, ◌++◌, refl, sym, subst, arith}
 use Rattle.std.specs.Prelude.{◌==◌, true, false, nat_le, if◌then◌else◌, flat_map}
 use Rattle.std.specs.List.{list_any}
 use Rattle.std.proofs.lemmas.Bool.{or_parts}
-use Rattle.pts_types.specs.declared.operation.ScalarOp.{ScalarOp}
 use Rattle.pts_affine.specs.declared.line.Line.{Line}
 use Rattle.pts_tree.specs.declared.expr.Expr.{Expr}
 use Rattle.pts_tree.specs.declared.expr.Place.{Place}
@@ -13,12 +12,12 @@ use Rattle.pts_rules.specs.Known.{Scope}
 use Rattle.pts_rules.specs.Indices.{Affine, affine_of, Reach, Along, leaves, line_of, length_of, place_reach, elements, places}
 use Rattle.pts_points.specs.declared.space.IterationSpace.{IterationSpace}
 use Rattle.pts_points.specs.Lines.{array_at, no_line}
-use Rattle.pts_points.specs.Pieces.{Context, Deed, Point, Piece, taken, seeing, off_from, under, nothing, behind, served, served_off, off_vector, binding, branching}
-use Rattle.pts_points.specs.Points.{index_of, line_at, array_of, line_of_deed, reads_of, both_reads, assign_deed, update_deed, kind_of_let, body_piece}
+use Rattle.pts_points.specs.Pieces.{Context, Deed, Point, Piece, taken, seeing, off_from, under, nothing, behind, served, branching}
+use Rattle.pts_points.specs.Points.{index_of, line_at, array_of, line_of_deed, reads_of, both_reads, body_piece}
 use Rattle.pts_points.specs.Inside.{IsWithin, HasRoom}
 use Rattle.pts_points.specs.Building.{kept_line, line_along, line_of_index}
 use Rattle.pts_points.proofs.Each.{Each, front, back, both}
-use Rattle.pts_points.proofs.ReadForms.{by_reads, read_deed}
+use Rattle.pts_points.proofs.ReadForms.{by_reads}
 use Rattle.pts_points.proofs.StatementForms.{by_bodies, note_deed, give_deed, test_deed}
 use Rattle.pts_points.proofs.ReadTurns.{index_shown}
 use Rattle.pts_points.proofs.Ranges.{in_array, line_same, is_short, array_few, within}

@@ -1,20 +1,18 @@
 -- What holds of the points of an item.
-use Rattle.std.proofs.Common.{◌≡◌, ℕ, zero, suc, ◌+◌, ◌<◌, ◌≤◌, ◌⊎◌, inl, inr, Option, Some, None, List, [], ◌∷◌, ◌++◌, map, length, option_map, refl, sym, ap, subst, ◌∙◌, arith}
+use Rattle.std.proofs.Common.{◌≡◌, ℕ, zero, suc, ◌+◌, ◌<◌, inl, inr, Option, Some, None, List, [], ◌∷◌, length, option_map, refl, sym, ap, subst, ◌∙◌, arith}
 use Rattle.std.specs.Prelude.{slice_get}
 use Rattle.std.proofs.lemmas.Option.{slice_get_within, slice_get-map}
-use Rattle.pts_affine.specs.declared.line.Line.{Line}
 use Rattle.pts_tree.specs.declared.script.Item.{Item}
 use Rattle.pts_rules.specs.Parts.{Simple, Throw, Assign, Call, Loop, statements}
 use Rattle.pts_rules.specs.Known.{Scope}
-use Rattle.pts_points.specs.declared.point.PointForm.{PointForm}
 use Rattle.pts_points.specs.declared.point.PointForm.TheVariants.{LiveOut, Into}
 use Rattle.pts_points.specs.declared.point.PointInfo.{PointInfo}
 use Rattle.pts_points.specs.Building.{points_among, offs_among}
-use Rattle.pts_points.specs.Pieces.{Context, Deed, Reads, Assigns, Updates, Notes, Tests, Gives, Fills, LivesOut, Answers, Point}
+use Rattle.pts_points.specs.Pieces.{Deed, Reads, Assigns, Updates, Notes, Tests, Gives, Fills, LivesOut, Answers, Point}
 use Rattle.pts_points.specs.Points.{statement_piece, context_of, calls_in, points_from, item_points, form_of, line_of_deed, info, points_of}
 use Rattle.pts_points.specs.Standings.{Ascends, IsNotedBefore, IsOneCell, IsCell, StandsBehind, AreTogether}
 use Rattle.pts_points.proofs.Each.{Each, both, all_of, at_place}
-use Rattle.pts_points.proofs.Standing.{Numbered, numbered_both, Stands, IsRight, IsOff, IsNotOff, Front, FrontOf, Together, Grouped, grouped_both, Good}
+use Rattle.pts_points.proofs.Standing.{Numbered, numbered_both, Stands, IsRight, IsOff, IsNotOff, Front, FrontOf, Together, Grouped, grouped_both}
 use Rattle.pts_points.proofs.Wholes.{good_statement}
 
 -- ---- the points of statements

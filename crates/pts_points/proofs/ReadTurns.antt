@@ -1,5 +1,5 @@
 -- How the Reads of an expression are added, form by form.
-use Rattle.std.proofs.Common.{◌≡◌, ℕ, ◌+◌, ◌<◌, ◌≤◌, Some, None, List, [], ◌∷◌, map, length, get_or, take, refl, sym, ap, subst, ◌∙◌}
+use Rattle.std.proofs.Common.{◌≡◌, ℕ, ◌+◌, ◌<◌, Some, None, List, map, length, get_or, take, refl, sym, ap, subst, ◌∙◌}
 use Rattle.pts_types.specs.declared.value.Kind.{Kind}
 use Rattle.pts_types.specs.declared.operation.ScalarOp.{ScalarOp}
 use Rattle.pts_affine.specs.declared.line.Line.{Line}
@@ -14,14 +14,14 @@ use Rattle.pts_points.specs.declared.builder.Builder.{Builder}
 use Rattle.pts_points.specs.declared.point.PointForm.TheVariants.{Read}
 use Rattle.pts_points.specs.Widths.{small}
 use Rattle.pts_points.specs.Lines.{no_line}
-use Rattle.pts_points.specs.Pieces.{Context, Along, Computed, Piece, nothing, behind, sequence}
+use Rattle.pts_points.specs.Pieces.{Context, Along, Computed, Piece, behind, sequence}
 use Rattle.pts_points.specs.Points.{array_at, index_kind, index_of, line_at, reads_of}
 use Rattle.pts_points.specs.Building.{Adds, element_piece, kept_line, line_along, line_of_index, pushed}
 use Rattle.pts_points.proofs.ReadForms as forms
 use Rattle.pts_points.proofs.Standing.{Good}
 use Rattle.pts_points.proofs.Wholes.{good_reads}
-use Rattle.pts_points.proofs.Builds.{IsShownAs, adds_nothing, adds_behind, adds_served}
-use Rattle.pts_points.proofs.Turns.{same_space, adds_turn, adds_all}
+use Rattle.pts_points.proofs.Builds.{adds_nothing, adds_behind, adds_served}
+use Rattle.pts_points.proofs.Turns.{same_space, adds_turn}
 
 -- the line of an index is shown whatever the names in scope are
 pub index_shown : (scope : Scope) (space : IterationSpace) (x : Expr) (context : Context) (n : ℕ) → line_at (index_of scope space x context n) ≡ line_of_index scope space x

@@ -1,5 +1,5 @@
 -- The points of a sound item lie in their arrays, and none of their numbers is cut.
-use Rattle.std.proofs.Common.{◌≡◌, ℕ, ◌+◌, ◌-◌, ◌^◌, ◌<◌, ◌≤◌, Bool, true, false, ℤ, pos, negsuc, ◌+ℤ◌, ◌*ℤ◌, ◌-ℤ◌, Option, Some, None, List, [], ◌∷◌, ◌++◌, map, length, refl, sym, ap, subst, ◌∙◌, arith}
+use Rattle.std.proofs.Common.{◌≡◌, ℕ, ◌+◌, ◌-◌, ◌^◌, ◌<◌, ◌≤◌, Bool, true, false, ℤ, pos, negsuc, ◌+ℤ◌, ◌*ℤ◌, ◌-ℤ◌, Option, Some, None, List, [], ◌∷◌, ◌++◌, map, refl, arith}
 use Rattle.std.specs.Prelude.{◌≤ℤ◌, ◌<ℤ◌, ◌==◌, ◌&&◌, ◌||◌, nat_le, nat_lt, int_lt, if◌then◌else◌, is_some, flat_map, All}
 use Rattle.std.specs.List.{list_all}
 use Rattle.std.proofs.lemmas.Int.{ints}
@@ -7,7 +7,6 @@ use Rattle.std.proofs.lemmas.Bool.{and_parts, or_parts, false≢true}
 use Rattle.std.proofs.lemmas.List.Elements.{All-head, All-tail}
 use Rattle.pts_types.specs.declared.value.Kind.TheVariants as kinds
 use Rattle.pts_types.specs.Arithmetic.{least_i64, greatest_i64}
-use Rattle.pts_affine.specs.declared.line.Line.{Line}
 use Rattle.pts_tree.specs.Spelling.{if_there}
 use Rattle.pts_tree.specs.declared.sum.Sum.{Sum}
 use Rattle.pts_tree.specs.declared.sum.Range.{Range}
@@ -28,14 +27,14 @@ use Rattle.pts_rules.specs.Indices.{reaches, Reach, Span, line_of, length_of, pl
 use Rattle.pts_rules.specs.Mistyped.{all_right, body_scope, checked_stmt, clause_right, range_right, call_right, loop_right, form_right}
 use Rattle.pts_rules.specs.Steps.{is_backward, goes_backward}
 use Rattle.pts_points.specs.Lines.{array_at, cells_from, line_of_range, line_of_cell, space_of, no_loop}
-use Rattle.pts_points.specs.Widths.{clamp, small}
-use Rattle.pts_points.specs.Pieces.{Along, Deed, Reads, Fills, LivesOut, Answers, Point, Piece, taken, seeing, nothing, behind, sequence, served, alone}
-use Rattle.pts_points.specs.Points.{array_of, line_of_deed, live_out, initial_piece, clause_piece, loop_piece, source_piece, target_piece, answer_piece, piece_of, own_piece, call_piece, reads_of, assign_piece, statement_piece, context_of, calls_in, points_from, item_points, info, points_of, body_piece}
+use Rattle.pts_points.specs.Widths.{clamp}
+use Rattle.pts_points.specs.Pieces.{Along, Deed, Reads, Fills, LivesOut, Answers, Piece, taken, seeing, nothing, behind, sequence, alone}
+use Rattle.pts_points.specs.Points.{array_of, line_of_deed, live_out, initial_piece, clause_piece, loop_piece, source_piece, target_piece, answer_piece, piece_of, own_piece, call_piece, reads_of, statement_piece, context_of, calls_in, points_from, item_points, info, points_of, body_piece}
 use Rattle.pts_points.specs.Inside.{IsInside, HasRoom, IsSound}
-use Rattle.pts_points.specs.Building.{kept_line, IsKept, AreKept}
+use Rattle.pts_points.specs.Building.{IsKept, AreKept}
 use Rattle.pts_points.proofs.Each.{Each, front, back, both, weaker, all_of, mapped}
-use Rattle.pts_points.proofs.Ranges.{clamp_same, small_same, in_array, is_short, array_few, within}
-use Rattle.pts_points.proofs.Interiors.{Stays, each_stays, IsHeld, HoldsPoint, AllHeld, no_cells, line_held, all_placed, reads_inside, body_inside}
+use Rattle.pts_points.proofs.Ranges.{clamp_same, small_same, is_short, array_few, within}
+use Rattle.pts_points.proofs.Interiors.{Stays, each_stays, IsHeld, HoldsPoint, AllHeld, line_held, all_placed, reads_inside, body_inside}
 
 -- ---- numbers
 

@@ -1,5 +1,5 @@
 -- What holds of the points of pieces: their numbers, their tests, the `let`s in scope, their Reads, and their `off`s.
-use Rattle.std.proofs.Common.{◌≡◌, ℕ, zero, suc, ◌+◌, ◌<◌, ◌≤◌, ◌≢◌, ◌⊎◌, inl, inr, Option, Some, None, List, [], ◌∷◌, ◌++◌, refl, sym, ap, subst, ◌∙◌, arith}
+use Rattle.std.proofs.Common.{◌≡◌, ℕ, ◌+◌, ◌<◌, ◌≤◌, ◌≢◌, ◌⊎◌, inl, inr, Option, Some, None, List, [], ◌∷◌, ◌++◌, refl, sym, ap, subst, arith}
 use Rattle.std.specs.Prelude.{Bool, true, false, unwrap_or}
 use Rattle.pts_types.specs.declared.value.Kind.{Kind}
 use Rattle.pts_rules.specs.Parts.{Name}

@@ -1,5 +1,5 @@
 -- A statement of a body, form by form, and what holds of all of them.
-use Rattle.std.proofs.Common.{◌≡◌, ℕ, ◌+◌, Option, Some, None, option_map, List, [], ◌∷◌, ◌++◌, map, sum, refl, sym, ap, subst, ◌∙◌, append_assoc, arith}
+use Rattle.std.proofs.Common.{◌≡◌, ℕ, ◌+◌, Option, Some, None, List, [], ◌∷◌, ◌++◌, map, sum, sym, subst}
 use Rattle.std.specs.Prelude.{flat_map}
 use Rattle.std.proofs.lemmas.List.Sums.{sum_by-cons}
 use Rattle.pts_types.specs.declared.operation.ScalarOp.{ScalarOp}
@@ -11,12 +11,12 @@ use Rattle.pts_tree.specs.declared.loops.BodyStmt.TheOpen.{BodyStmt-F}
 use Rattle.pts_tree.specs.declared.loops.BodyStmt.TheVariants as b
 use Rattle.pts_tree.specs.declared.loops.BodyStmt.TheFolds.{map-BodyStmt, ind-BodyStmt}
 use Rattle.pts_rules.specs.Known.{Scope}
-use Rattle.pts_rules.specs.Counts.{reads, body_points, else_points}
-use Rattle.pts_rules.specs.Indices.{elements, places, else_places}
+use Rattle.pts_rules.specs.Counts.{reads, body_points}
+use Rattle.pts_rules.specs.Indices.{elements, places}
 use Rattle.pts_rules.proofs.Bodies as bodies
 use Rattle.pts_rules.proofs.StatementFolds.{at-Assign, at-Let, at-Combine, at-If, at-VecOff, at-Ordered}
 use Rattle.pts_points.specs.declared.space.IterationSpace.{IterationSpace}
-use Rattle.pts_points.specs.Pieces.{Context, Deed, Notes, Tests, Gives, Piece, nothing, behind, sequence, sequence_of, served, served_off, off_vector, binding, branching}
+use Rattle.pts_points.specs.Pieces.{Context, Deed, Notes, Tests, Gives, Piece, nothing, behind, served, served_off, off_vector, binding, branching}
 use Rattle.pts_points.specs.Points.{reads_of, both_reads, assign_deed, update_deed, kind_of_let, view_kind, stmt_step, stmt_piece, body_piece}
 
 -- the note of a `let`, a value for a view, and a test

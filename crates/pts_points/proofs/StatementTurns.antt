@@ -1,12 +1,10 @@
 -- How statements are added, each with its points and its call.
-use Rattle.std.proofs.Common.{◌≡◌, ℕ, zero, suc, ◌+◌, ◌-◌, ◌<◌, ◌≤◌, ◌^◌, Option, Some, None, List, [], ◌∷◌, ◌++◌, map, length, get_or, take, refl, sym, ap, subst, ◌∙◌, append_assoc, length-append, arith}
+use Rattle.std.proofs.Common.{◌≡◌, ℕ, zero, suc, ◌+◌, ◌-◌, ◌<◌, ◌≤◌, Option, Some, None, List, [], ◌∷◌, ◌++◌, map, length, get_or, take, refl, sym, ap, subst, ◌∙◌, append_assoc, length-append, arith}
 use Rattle.std.specs.Prelude.{flat_map}
 use Rattle.std.proofs.lemmas.List.{take_all, take_more}
 use Rattle.pts_types.specs.declared.operation.Policy.{Policy}
 use Rattle.pts_tree.specs.declared.sum.Cell.{Cell}
-use Rattle.pts_tree.specs.declared.call.Call as call
 use Rattle.pts_tree.specs.declared.expr.Expr.{Expr}
-use Rattle.pts_tree.specs.declared.loops.Loop as loops
 use Rattle.pts_rules.specs.Known.{Scope}
 use Rattle.pts_rules.specs.Parts.{Simple, Throw, Assign, Call, Loop}
 use Rattle.pts_points.specs.declared.builder.Builder.{Builder}
@@ -14,11 +12,10 @@ use Rattle.pts_points.specs.declared.point.CallInfo.{CallInfo}
 use Rattle.pts_points.specs.declared.point.PointForm.TheVariants.{Write}
 use Rattle.pts_points.specs.declared.space.IterationSpace.{IterationSpace}
 use Rattle.pts_points.specs.Widths.{small}
-use Rattle.pts_points.specs.Lines.{line_of_cell, line_of_range, no_loop, space_of}
-use Rattle.pts_points.specs.Pieces.{Context, Point, Piece, taken}
-use Rattle.pts_points.specs.Points.{array_at, reads_of, assign_piece, call_piece, loop_piece, statement_piece, outside, context_of, calls_in, points_from, call_info, call_at, calls_from}
+use Rattle.pts_points.specs.Lines.{line_of_cell, no_loop}
+use Rattle.pts_points.specs.Pieces.{taken}
+use Rattle.pts_points.specs.Points.{array_at, reads_of, assign_piece, statement_piece, outside, context_of, calls_in, points_from, call_info, call_at, calls_from}
 use Rattle.pts_points.specs.Building.{Adds, IsIdle, AreKept, AreAddable, branch_of, context_at, ended, kept_call, kept_info, kept_line, pushed_cell, with_points, with_statements, points_among, offs_among, calls_among}
-use Rattle.pts_points.proofs.Standing.{Good}
 use Rattle.pts_points.proofs.Wholes.{good_reads, good_statement}
 use Rattle.pts_points.proofs.PointLists.{numbered_from, length_is}
 use Rattle.pts_points.proofs.Builds.{adds_served, append_nothing, map_both, map_length, more_length}

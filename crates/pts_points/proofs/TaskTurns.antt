@@ -1,7 +1,6 @@
 -- The statements of a statement of a block, form by form, and how they are added.
-use Rattle.std.proofs.Common.{◌≡◌, ℕ, ◌+◌, ◌<◌, ◌^◌, Some, List, [], ◌∷◌, length, refl, sym, ap, subst, ◌∙◌, arith}
+use Rattle.std.proofs.Common.{◌≡◌, ℕ, ◌+◌, Some, List, [], ◌∷◌, length, refl, sym, ap, subst, ◌∙◌}
 use Rattle.std.specs.Prelude.{flat_map}
-use Rattle.pts_types.specs.declared.operation.Policy.{Policy}
 use Rattle.pts_affine.specs.declared.line.Line.{Line}
 use Rattle.pts_tree.specs.declared.sum.Cell.{Cell}
 use Rattle.pts_tree.specs.declared.call.Call as call
@@ -11,7 +10,6 @@ use Rattle.pts_tree.specs.declared.block.Block.{Block}
 use Rattle.pts_tree.specs.declared.block.TaskStmt.{TaskStmt}
 use Rattle.pts_tree.specs.declared.block.TaskStmt.TheVariants as t
 use Rattle.pts_tree.specs.declared.script.Item.{Item}
-use Rattle.pts_tree.specs.declared.script.Item.TheVariants as items
 use Rattle.pts_rules.specs.Known.{Scope}
 use Rattle.pts_rules.specs.Mistyped.{body_scope}
 use Rattle.pts_rules.specs.Parts.{Simple, Throw, Assign, Call, Loop, block_statements, statements}
@@ -19,10 +17,9 @@ use Rattle.pts_rules.proofs.Tasks as tasks
 use Rattle.pts_points.specs.declared.builder.Builder.{Builder}
 use Rattle.pts_points.specs.declared.space.IterationSpace.{IterationSpace}
 use Rattle.pts_points.specs.Widths.{small}
-use Rattle.pts_points.specs.Lines.{line_of_range, no_loop, space_of}
-use Rattle.pts_points.specs.Pieces.{Piece, taken}
-use Rattle.pts_points.specs.Points.{call_piece, loop_piece, statement_piece}
-use Rattle.pts_points.specs.Building.{Adds, IsIdle, IsKept, AreAddable, ended, kept_line, task_statements, with_statements, offs_among}
+use Rattle.pts_points.specs.Lines.{line_of_range, space_of}
+use Rattle.pts_points.specs.Points.{call_piece, loop_piece}
+use Rattle.pts_points.specs.Building.{Adds, AreAddable, ended, kept_line, task_statements, with_statements}
 use Rattle.pts_points.proofs.StatementTurns.{call_done, with_none}
 
 pub task-Run : (xs : List TaskStmt) → task_statements (t.Run xs) ≡ flat_map task_statements xs

@@ -1,12 +1,11 @@
 -- Pieces that are added one after the other, one at each turn of a loop.
-use Rattle.std.proofs.Common.{◌≡◌, ℕ, ◌+◌, ◌<◌, ◌≤◌, List, [], ◌∷◌, ◌++◌, map, length, get_or, take, refl, sym, ap, subst, ◌∙◌, append_assoc, arith}
+use Rattle.std.proofs.Common.{◌≡◌, ℕ, ◌+◌, ◌<◌, ◌≤◌, List, [], ◌∷◌, ◌++◌, map, length, get_or, take, sym, ap, subst, ◌∙◌, append_assoc, arith}
 use Rattle.std.proofs.lemmas.List.{take_all, take_more}
 use Rattle.pts_points.specs.declared.builder.Builder.{Builder}
-use Rattle.pts_points.specs.declared.space.IterationSpace.{IterationSpace}
 use Rattle.pts_points.specs.Pieces.{Piece, seeing, taken, nothing, behind, sequence}
 use Rattle.pts_points.specs.Building.{Adds}
 use Rattle.pts_points.proofs.Standing.{Good, good_nothing, good_behind}
-use Rattle.pts_points.proofs.Builds.{append_nothing, map_both, taken_nothing, taken_both, adds_nothing, adds_behind}
+use Rattle.pts_points.proofs.Builds.{append_nothing, map_both, taken_nothing, taken_both, adds_behind}
 
 -- ---- pieces behind each other
 

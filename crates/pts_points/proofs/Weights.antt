@@ -1,17 +1,11 @@
 -- How much is left to do in statements of a block.
-use Rattle.std.proofs.Common.{◌≡◌, ℕ, zero, suc, ◌+◌, ◌<◌, ◌≤◌, Option, Some, None, List, [], ◌∷◌, map, length, get_or, sym, ap, ◌∙◌, arith}
-use Rattle.pts_types.specs.declared.operation.ScalarOp.{ScalarOp}
-use Rattle.pts_tree.specs.declared.expr.Expr.{Expr}
-use Rattle.pts_tree.specs.declared.loops.BodyStmt.{BodyStmt}
-use Rattle.pts_tree.specs.declared.loops.BodyStmt.TheOpen.{BodyStmt-F}
-use Rattle.pts_tree.specs.declared.loops.BodyStmt.TheVariants as b
-use Rattle.pts_tree.specs.declared.loops.BodyStmt.TheFolds.{fold-BodyStmt}
+use Rattle.std.proofs.Common.{◌≡◌, ℕ, zero, suc, ◌+◌, ◌<◌, ◌≤◌, List, [], ◌∷◌, map, length, get_or, ap, ◌∙◌, arith}
 use Rattle.pts_tree.specs.declared.block.Block.{Block}
 use Rattle.pts_tree.specs.declared.block.TaskStmt.{TaskStmt}
 use Rattle.pts_tree.specs.declared.block.TaskStmt.TheOpen.{TaskStmt-F, Block-F}
 use Rattle.pts_tree.specs.declared.block.TaskStmt.TheVariants as t
 use Rattle.pts_tree.specs.declared.block.TaskStmt.TheFolds.{fold-TaskStmt}
-use Rattle.pts_rules.proofs.StatementFolds.{at-If, at-VecOff, at-Run, at-Block, at-body}
+use Rattle.pts_rules.proofs.StatementFolds.{at-Run, at-Block, at-body}
 
 abbrev total : List ℕ → ℕ
 total [] = 0

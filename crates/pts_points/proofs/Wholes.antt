@@ -1,5 +1,5 @@
 -- What holds of the points of every expression, statement and item.
-use Rattle.std.proofs.Common.{◌≡◌, ℕ, zero, suc, ◌+◌, ◌<◌, ◌≤◌, Option, Some, None, List, [], ◌∷◌, ◌++◌, map, refl, sym, ap, subst, ◌∙◌, arith}
+use Rattle.std.proofs.Common.{◌≡◌, ℕ, ◌+◌, Option, Some, None, List, [], ◌∷◌, map, refl, arith}
 use Rattle.pts_types.specs.declared.operation.ScalarOp.{ScalarOp}
 use Rattle.pts_tree.specs.declared.sum.Range.{Range}
 use Rattle.pts_tree.specs.declared.sum.Cell.{Cell}
@@ -17,11 +17,11 @@ use Rattle.pts_tree.specs.declared.loops.BodyStmt.{BodyStmt}
 use Rattle.pts_rules.specs.Parts.{Simple, Throw, Assign, Call, Loop}
 use Rattle.pts_rules.specs.Known.{Scope}
 use Rattle.pts_rules.specs.Counts.{reads}
-use Rattle.pts_rules.specs.Indices.{affine_of, Affine, line_of}
+use Rattle.pts_rules.specs.Indices.{affine_of, line_of}
 use Rattle.pts_points.specs.declared.space.IterationSpace.{IterationSpace}
 use Rattle.pts_points.specs.Lines.{no_loop, space_of}
 use Rattle.pts_points.specs.Pieces.{Context, Along, Computed, Deed, Piece, nothing, sequence, served, served_off, alone, binding, branching}
-use Rattle.pts_points.specs.Points.{index_kind, index_of, reads_of, both_reads, assign_deed, update_deed, kind_of_let, stmt_piece, body_piece, live_out, initial_piece, clause_piece, loop_piece, source_piece, target_piece, answer_piece, piece_of, own_piece, call_piece, assign_piece, statement_piece}
+use Rattle.pts_points.specs.Points.{index_kind, index_of, reads_of, both_reads, assign_deed, update_deed, kind_of_let, stmt_piece, body_piece, live_out, initial_piece, clause_piece, loop_piece, source_piece, target_piece, answer_piece, piece_of, own_piece, call_piece, statement_piece}
 use Rattle.pts_points.specs.Standings.{IndexEnds}
 use Rattle.pts_points.proofs.ReadForms.{by_reads}
 use Rattle.pts_points.proofs.StatementForms.{by_stmts, note_deed, give_deed, test_deed}

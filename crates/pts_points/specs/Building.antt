@@ -5,7 +5,6 @@ use Rattle.pts_types.specs.declared.operation.Policy.{Policy}
 use Rattle.pts_types.specs.Arithmetic.{least_i64, greatest_i64}
 use Rattle.pts_affine.specs.declared.line.Line.{Line}
 use Rattle.pts_tree.specs.declared.expr.Place.{Place}
-use Rattle.pts_tree.specs.declared.loops.Loop as loops
 use Rattle.pts_tree.specs.declared.sum.Range.{Range}
 use Rattle.pts_tree.specs.declared.sum.Cell.{Cell}
 use Rattle.pts_tree.specs.declared.expr.Expr.{Expr}
@@ -13,7 +12,7 @@ use Rattle.pts_tree.specs.declared.block.TaskStmt.{TaskStmt}
 use Rattle.pts_tree.specs.declared.block.TaskStmt.TheFolds.{fold-TaskStmt}
 use Rattle.pts_rules.specs.Known.{Scope}
 use Rattle.pts_rules.specs.Indices.{affine_of, line_of}
-use Rattle.pts_rules.specs.Parts.{Name, Simple, Throw, Assign, Call, Loop, simple_step}
+use Rattle.pts_rules.specs.Parts.{Name, Simple, Loop, simple_step}
 use Rattle.pts_points.specs.declared.point.PointForm.{PointForm}
 use Rattle.pts_points.specs.declared.point.PointForm.TheVariants.{Plain}
 use Rattle.pts_points.specs.declared.point.Branch.{Branch}

@@ -1,5 +1,5 @@
 -- Where points stand: behind their tests, behind the `let`s that they may use, and behind their Reads.
-use Rattle.std.specs.Prelude.{◌≡◌, ℕ, ◌+◌, ◌<◌, ◌≤◌, Option, Some, None, List, [], ◌∷◌, slice_get, All, pos, ⊤}
+use Rattle.std.specs.Prelude.{◌≡◌, ℕ, ◌+◌, ◌<◌, ◌≤◌, Some, List, [], ◌∷◌, slice_get, All, pos, ⊤}
 use Rattle.pts_affine.specs.declared.line.Line.{Line}
 use Rattle.pts_rules.specs.Counts.{reads}
 use Rattle.pts_points.specs.declared.point.Branch.{Branch}

@@ -1,6 +1,6 @@
 use Rattle.pts_points.specs.Building.{AreAddable, with_statements}
 use Rattle.pts_rules.specs.Parts.{statements}
-use Rattle.std.proofs.Common.{◌≡◌, sym, ap, subst, ◌∙◌}
+use Rattle.std.proofs.Common.{sym, ap, subst, ◌∙◌}
 use Rattle.pts_points.proofs.Exact.{first_room, exact_points, exact_calls}
 use Rattle.pts_points.proofs.items.build_item.Goals as goal
 
