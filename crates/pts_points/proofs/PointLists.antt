@@ -155,3 +155,13 @@ module _ (scope : Scope) (item earlier : ℕ) (x : Item) (k : ℕ) (y : PointInf
 
   pub into_shown : y.form ≡ Into → IsCell y.line
   into_shown e = subst (λ z. IsCell z.line) shown.same (into_cell shown.point.deed (ap (λ z. z.form) shown.same ∙ e) (one_cell scope earlier x k shown.point shown.place))
+
+pub offs_shown : (scope : Scope) (item earlier : ℕ) (x : Item) (i j k : ℕ) (a b c : PointInfo) (off : ℕ) → i < j → j < k
+    → slice_get (points_of scope item earlier x) i ≡ Some a → slice_get (points_of scope item earlier x) j ≡ Some b → slice_get (points_of scope item earlier x) k ≡ Some c
+    → a.off ≡ Some off → c.off ≡ Some off → b.off ≡ Some off
+offs_shown scope item earlier x i j k a b c off less more at_i at_j at_k e f =
+    let first = shown_at scope item earlier x i a at_i in
+    let middle = shown_at scope item earlier x j b at_j in
+    let last = shown_at scope item earlier x k c at_k in
+    ap (λ z. z.off) (sym middle.same)
+    ∙ offs_together scope earlier x i j k first.point middle.point last.point off less more first.place middle.place last.place (ap (λ z. z.off) first.same ∙ e) (ap (λ z. z.off) last.same ∙ f)

@@ -115,10 +115,6 @@ offs_both : (scope : Scope) (xs ys : List Simple) → offs_among scope (xs ++ ys
 offs_both scope [] ys = omega arith
 offs_both scope (x ∷ xs) ys = let h = offs_both scope xs ys in omega (arith, h)
 
-pub count_both : (xs ys : List Simple) → calls_among (xs ++ ys) ≡ calls_among xs + calls_among ys
-count_both [] ys = omega arith
-count_both (x ∷ xs) ys = let h = count_both xs ys in omega (arith, h)
-
 call_count : (scope : Scope) (item n : ℕ) (x : Simple) → length (call_at scope item n x) ≡ calls_in x
 call_count scope item n (Throw code) = refl
 call_count scope item n (Assign at x) = refl

@@ -28,7 +28,10 @@ pub fn points_stand_behind_what_they_need()
 
 /// What stands between two points of one `off` has it too.
 pub fn offs_stand_together()
-    ensures { (scope : Scope) (earlier : ℕ) (x : Item) → AreTogether (item_points scope earlier x) }
+    ensures all { (scope : Scope) (earlier : ℕ) (x : Item) → AreTogether (item_points scope earlier x) }
+    ensures shown { (scope : Scope) (item earlier : ℕ) (x : Item) (i j k : ℕ) (a b c : PointInfo) (off : ℕ) → i < j → j < k
+        → slice_get (points_of scope item earlier x) i ≡ Some a → slice_get (points_of scope item earlier x) j ≡ Some b → slice_get (points_of scope item earlier x) k ≡ Some c
+        → a.off ≡ Some off → c.off ≡ Some off → b.off ≡ Some off }
 {}
 
 /// The cell of a clause, and that of a call's answer, is one cell and the same at every position.
