@@ -2,7 +2,7 @@
 use mir.Syntax.{w128}
 use Rattle.std.proofs.Common.{to_z, of_z, ◌≡◌, ap, ◌∙◌}
 use Rattle.std.specs.Prelude.{ℤ}
-use Rattle.pts_points.specs.Points.{clamp}
+use Rattle.pts_points.specs.Widths.{clamp}
 
 -- a number as the code holds it
 abbrev pub wide : ℤ → ℤ

@@ -1,43 +1,26 @@
--- Every cell of a sound item's points lies in its array, and none of their numbers was cut.
-use Rattle.std.proofs.Common.{◌≡◌, ℕ, ◌+◌, ◌^◌, ◌≤◌, true, false, ℤ, pos, ◌+ℤ◌, ◌*ℤ◌, Option, Some, None, List, [], ◌∷◌, ◌++◌, map, refl, sym, subst, arith}
-use Rattle.std.specs.Prelude.{◌==◌, nat_le, if◌then◌else◌, flat_map, All}
+-- The cells of every point lie in their arrays where the elements that are read and written do.
+use Rattle.std.proofs.Common.{◌≡◌, ℕ, ◌+◌, ◌-◌, ◌^◌, ◌≤◌, ℤ, pos, ◌+ℤ◌, ◌*ℤ◌, Option, Some, None, List, [], ◌∷◌, ◌++◌, refl, sym, subst, arith}
+use Rattle.std.specs.Prelude.{◌==◌, true, false, nat_le, if◌then◌else◌, flat_map}
 use Rattle.std.specs.List.{list_any}
-use Rattle.std.proofs.lemmas.List.Elements.{All-push}
 use Rattle.std.proofs.lemmas.Bool.{or_parts}
 use Rattle.pts_affine.specs.declared.line.Line.{Line}
 use Rattle.pts_tree.specs.declared.expr.Expr.{Expr}
 use Rattle.pts_tree.specs.declared.expr.Place.{Place}
-use Rattle.pts_tree.specs.declared.loops.BodyStmt.{BodyStmt, roll-BodyStmt}
-use Rattle.pts_tree.specs.declared.loops.BodyStmt.TheOpen.{BodyStmt-F}
-use Rattle.pts_tree.specs.declared.loops.BodyStmt.TheVariants as b
-use Rattle.pts_tree.specs.declared.loops.BodyStmt.TheFolds.{map-BodyStmt, ind-BodyStmt}
+use Rattle.pts_tree.specs.declared.loops.BodyStmt.{BodyStmt}
 use Rattle.pts_rules.specs.Parts.{Name}
 use Rattle.pts_rules.specs.Known.{Scope}
 use Rattle.pts_rules.specs.Indices.{Affine, affine_of, Reach, Along, leaves, line_of, length_of, place_reach, elements, places}
-use Rattle.pts_rules.proofs.Bodies as bodies
-use Rattle.pts_points.specs.declared.point.PointForm.{PointForm}
-use Rattle.pts_points.specs.declared.point.PointForm.TheVariants.{Read, Write, Update}
-use Rattle.pts_points.specs.declared.course.Course.{Course}
-use Rattle.pts_points.specs.declared.walk.Site.{Site}
-use Rattle.pts_points.specs.declared.walk.Walk.{Walk}
-use Rattle.pts_points.specs.Points.{small, array_at, no_line, line_along, line_of_index, put, put_plain, put_place, put_elements, put_reads, put_stmt, put_body, under, off_site, off_walk}
-use Rattle.pts_points.specs.Inside.{IsWithin, IsInside, HasRoom}
-use Rattle.pts_points.proofs.StatementForms as stmts
-use Rattle.pts_points.proofs.Ranges.{in_array, clamped_same, is_short, within}
-
--- ---- facts of each element of a list
-
-abbrev pub Each : {A : Type 0} → (A → Type 0) → List A → Type 0
-Each P [] = Unit {0}
-Each P (x ∷ xs) = P x × Each P xs
-
-pub front : {A : Type 0} (P : A → Type 0) (xs ys : List A) → Each P (xs ++ ys) → Each P xs
-front P [] ys h = tt
-front P (x ∷ xs) ys h = (h.0, front P xs ys h.1)
-
-pub back : {A : Type 0} (P : A → Type 0) (xs ys : List A) → Each P (xs ++ ys) → Each P ys
-back P [] ys h = h
-back P (x ∷ xs) ys h = back P xs ys h.1
+use Rattle.pts_points.specs.declared.space.IterationSpace.{IterationSpace}
+use Rattle.pts_points.specs.Lines.{array_at, no_line}
+use Rattle.pts_points.specs.Pieces.{Context, Deed, Point, Piece, taken, seeing, off_from, under, nothing, behind, served, branching}
+use Rattle.pts_points.specs.Points.{index_of, line_at, array_of, line_of_deed, reads_of, both_reads, body_piece}
+use Rattle.pts_points.specs.Inside.{IsWithin, HasRoom}
+use Rattle.pts_points.specs.Building.{kept_line, line_along, line_of_index}
+use Rattle.pts_points.proofs.Each.{Each, front, back, both}
+use Rattle.pts_points.proofs.ReadForms.{by_reads}
+use Rattle.pts_points.proofs.StatementForms.{by_bodies, note_deed, give_deed, test_deed}
+use Rattle.pts_points.proofs.ReadTurns.{index_shown}
+use Rattle.pts_points.proofs.Ranges.{in_array, line_same, is_short, array_few, within}
 
 -- cells that never leave their array
 abbrev pub Stays : Reach → Type 0
@@ -47,6 +30,18 @@ pub each_stays : (rs : List Reach) → ((p : ℕ) → list_any (leaves p) rs ≡
 each_stays [] h = tt
 each_stays (r ∷ rs) h = ((λ p. (or_parts (leaves p r) (list_any (leaves p) rs) (h p)).0), each_stays rs (λ p. (or_parts (leaves p r) (list_any (leaves p) rs) (h p)).1))
 
+-- a line within its array, whose numbers are kept as they are
+pub record IsHeld (scope : Scope) (array : ℕ) (line : Line) : Type 0 where
+  pub inside : IsWithin scope array line
+  pub kept : kept_line line ≡ line
+  pub few : array ≤ 2 ^ 32 - 1
+
+abbrev pub HoldsPoint : Scope → Point → Type 0
+HoldsPoint scope p = IsHeld scope (array_of p.deed) (line_of_deed p.deed)
+
+abbrev pub AllHeld : Scope → Piece → Type 0
+AllHeld scope x = (context : Context) (n m : ℕ) → Each (HoldsPoint scope) (x.points context n m)
+
 -- ---- indices
 
 level_line : (n : ℕ) (z : ℤ) → n ≤ 1 → (if nat_le n 1 then pos 0 else z) ≡ pos 0
@@ -55,148 +50,100 @@ level_line n z h = grind (arith, h)
 still_line : (n : ℕ) (z : ℤ) → n ≡ 0 → (if n == 0 then pos 0 else z) ≡ pos 0
 still_line n z h = rw h refl
 
-nothing : (scope : Scope) → HasRoom scope → (name : Name) → IsWithin scope (array_at scope name) no_line
-nothing scope room name = within scope room name no_line (omega arith) (λ h. refl) (λ p h. absurd (omega (arith, h)))
-
-no_cells : (scope : Scope) → IsWithin scope 0 no_line
-no_cells scope =
+pub no_cells : (scope : Scope) (array : ℕ) → array ≤ 2 ^ 32 - 1 → IsHeld scope array no_line
+no_cells scope array few =
     record {
-      cells = λ p h. absurd (omega (arith, h));
-      bounded = record { cells = λ p h. absurd (omega (arith, h)); positions = omega arith; level = λ h. refl };
+      inside = record {
+        cells = λ p h. absurd (omega (arith, h));
+        bounded = record { cells = λ p h. absurd (omega (arith, h)); positions = omega arith; level = λ h. refl };
+      };
+      kept = refl;
+      few = few;
     }
 
--- the line of an index before it is cut
-abbrev pub exact : Course → Affine → Line
-exact course = line_of course.first course.step course.positions
+-- a line that never leaves a named array
+pub line_held : (scope : Scope) → HasRoom scope → (name : Name) (line : Line) → line.n ≤ 2 ^ 20 → (line.n ≤ 1 → line.c ≡ pos 0) → (line.n ≡ 0 → line.d ≡ pos 0)
+    → Stays (Along line (length_of scope name)) → IsHeld scope (array_at scope name) line
+line_held scope room name line few level still stays =
+    record {
+      inside = within scope room name line few level (λ p k. in_array line (length_of scope name) p (stays p) k);
+      kept = line_same line (length_of scope name) (is_short scope room name) few level still stays;
+      few = array_few scope room name;
+    }
 
-index_within : (scope : Scope) → HasRoom scope → (course : Course) → course.positions ≤ 2 ^ 20 → (name : Name) (o : Option Affine)
-    → Each Stays (elim o [ None ↦ [] | Some x ↦ Along (exact course x) (length_of scope name) ∷ [] ])
-    → IsWithin scope (array_at scope name) (elim o [ None ↦ no_line | Some x ↦ line_along course x.factor x.offset ])
-index_within scope room course few name None h = nothing scope room name
-index_within scope room course few name (Some x) h =
-    let line : Line = exact course x in
-    let level : line.n ≤ 1 → line.c ≡ pos 0 = level_line course.positions (x.factor *ℤ course.step) in
-    let still : line.n ≡ 0 → line.d ≡ pos 0 = still_line course.positions (x.factor *ℤ course.first +ℤ x.offset) in
-    subst (IsWithin scope (array_at scope name)) (sym (clamped_same line (length_of scope name) (is_short scope room name) level still h.0))
-    (within scope room name line few level (λ p k. in_array line (length_of scope name) p (h.0 p) k))
+module _ (scope : Scope) (room : HasRoom scope) (space : IterationSpace) (few : space.positions ≤ 2 ^ 20) where
+  abbrev line : Affine → Line
+  line = line_of space.first space.step space.positions
 
--- an element whose line lies in its array
-abbrev pub Placed : Scope → Course → Place → Type 0
-Placed scope course at = IsWithin scope (array_at scope at.array) (line_of_index scope course at.index)
+  -- an element whose line lies in its array
+  abbrev pub IsPlaced : Place → Type 0
+  IsPlaced at = IsHeld scope (array_at scope at.array) (line_of_index scope space at.index)
 
-pub all_placed : (scope : Scope) → HasRoom scope → (course : Course) → course.positions ≤ 2 ^ 20 → (xs : List Place)
-    → Each Stays (flat_map (place_reach scope (exact course) course.index) xs) → Each (Placed scope course) xs
-all_placed scope room course few [] h = tt
-all_placed scope room course few (x ∷ xs) h =
-    let own : List Reach = place_reach scope (exact course) course.index x in
-    let rest : List Reach = flat_map (place_reach scope (exact course) course.index) xs in
-    (index_within scope room course few x.array (affine_of scope course.index x.index) (front Stays own rest h), all_placed scope room course few xs (back Stays own rest h))
+  index_held : (name : Name) (o : Option Affine) → Each Stays (elim o [ None ↦ [] | Some x ↦ Along (line x) (length_of scope name) ∷ [] ])
+      → IsHeld scope (array_at scope name) (elim o [ None ↦ no_line | Some x ↦ line_along space x.factor x.offset ])
+  index_held name None h = no_cells scope (array_at scope name) (array_few scope room name)
+  index_held name (Some x) h =
+      line_held scope room name (line x) few (level_line space.positions (x.factor *ℤ space.step)) (still_line space.positions (x.factor *ℤ space.first +ℤ x.offset)) h.0
 
--- ---- walks
+  pub all_placed : (xs : List Place) → Each Stays (flat_map (place_reach scope line space.index) xs) → Each IsPlaced xs
+  all_placed [] h = tt
+  all_placed (x ∷ xs) h =
+      let own : List Reach = place_reach scope line space.index x in
+      let rest : List Reach = flat_map (place_reach scope line space.index) xs in
+      (index_held x.array (affine_of scope space.index x.index) (front Stays own rest h), all_placed xs (back Stays own rest h))
 
-abbrev pub AllInside : Scope → Walk → Type 0
-AllInside scope walk = All (IsInside scope) walk.points
+  -- ---- pieces
 
-pub put_inside : (scope : Scope) (form : PointForm) (array : ℕ) (line : Line) (site : Site) (walk : Walk)
-    → AllInside scope walk → IsWithin scope array line → AllInside scope (put form array line site walk)
-put_inside scope form array line site walk h w = All-push (IsInside scope) walk.points _ h w
+  abbrev IsInside : List Place → ℕ → Piece → Type 0
+  IsInside places n x = Each IsPlaced places → AllHeld scope x
 
-off_inside_by : (scope : Scope) (o : Option ℕ) (walk : Walk) → AllInside scope walk
-    → AllInside scope (elim o [ None ↦ record walk { offs = small (walk.offs + 1) } | Some n ↦ walk ])
-off_inside_by scope None walk h = h
-off_inside_by scope (Some n) walk h = h
+  none_inside : IsInside [] 0 nothing
+  none_inside h context n m = tt
 
-module _ (scope : Scope) (course : Course) where
-  off_inside : (site : Site) (walk : Walk) → AllInside scope walk → AllInside scope (off_walk site walk)
-  off_inside site walk h = off_inside_by scope site.off walk h
+  more_inside : (xs ys : List Place) (i j : ℕ) (x y : Piece) → IsInside xs i x → IsInside ys j y → IsInside (xs ++ ys) (i + j) (behind x y)
+  more_inside xs ys i j x y f g h context n m =
+      both (HoldsPoint scope) (x.points context n m) (y.points (seeing (x.lets context n) context) (n + x.size) (taken context.off x.offs m)) (f (front IsPlaced xs ys h) context n m)
+      (g (back IsPlaced xs ys h) (seeing (x.lets context n) context) (n + x.size) (taken context.off x.offs m))
 
-  elements_inside : (site : Site) (walk : Walk) (xs : List Place) → Each (Placed scope course) xs → AllInside scope walk → AllInside scope (put_elements scope course site walk xs)
-  elements_inside site walk [] e h = h
-  elements_inside site walk (x ∷ xs) e h =
-      elements_inside site (put_place scope course Read x site walk) xs e.1
-      (put_inside scope Read (array_at scope x.array) (line_of_index scope course x.index) site walk h e.0)
+  shown_held : (at : Place) (context : Context) (n : ℕ) → IsPlaced at → IsHeld scope (array_at scope at.array) (line_at (index_of scope space at.index context n))
+  shown_held at context n h = subst (IsHeld scope (array_at scope at.array)) (sym (index_shown scope space at.index context n)) h
 
-  pub reads_inside : (x : Expr) (site : Site) (walk : Walk) → Each (Placed scope course) (elements x) → AllInside scope walk → AllInside scope (put_reads scope course x site walk)
-  unfolding put_reads
-  reads_inside x site walk e h = elements_inside site walk (elements x) e h
+  pub reads_inside : (x : Expr) → Each IsPlaced (elements x) → AllHeld scope (reads_of scope space x)
+  reads_inside =
+      by_reads scope space IsInside none_inside more_inside
+      (λ name x f h context n m.
+      both (HoldsPoint scope) ((reads_of scope space x).points context n m) (_ ∷ []) (f h.1 context n m) (shown_held (record { array = name; index = x }) context n h.0, tt))
 
-  abbrev Keeps : BodyStmt → Type 0
-  Keeps x = (site : Site) (walk : Walk) → Each (Placed scope course) (places x) → AllInside scope walk → AllInside scope (put_stmt scope course x site walk)
+  both_inside : (at : Place) (x : Expr) → Each IsPlaced ((at ∷ elements at.index) ++ elements x) → AllHeld scope (both_reads scope space at x)
+  both_inside at x h =
+      more_inside (elements at.index) (elements x) 0 0 (reads_of scope space at.index) (reads_of scope space x) (reads_inside at.index) (reads_inside x)
+      (both IsPlaced (elements at.index) (elements x) (front IsPlaced (at ∷ elements at.index) (elements x) h).1 (back IsPlaced (at ∷ elements at.index) (elements x) h))
 
-  abbrev Keeping : Type 0
-  Keeping = (x : BodyStmt) × Keeps x
+  -- Reads and a point that touches nothing
+  plain_inside : (x : Expr) (deed : Context → ℕ → Deed) → ((context : Context) (n : ℕ) → IsHeld scope (array_of (deed context n)) (line_of_deed (deed context n)))
+      → Each IsPlaced (elements x) → AllHeld scope (served (reads_of scope space x) deed)
+  plain_inside x deed plain h context n m =
+      both (HoldsPoint scope) ((reads_of scope space x).points context n m) (_ ∷ []) (reads_inside x h context n m) (plain context n, tt)
 
-  abbrev bare : List Keeping → List BodyStmt
-  bare ys = map (λ (y : Keeping). y.0) ys
+  branches_inside : (c : Expr) (xs ys : List Place) (i j : ℕ) (x y : Piece) → IsInside xs i x → IsInside ys j y
+      → Each IsPlaced (elements c ++ xs ++ ys) → AllHeld scope (branching (reads_of scope space c) (test_deed c) x y)
+  branches_inside c xs ys i j x y f g h context n m =
+      let own = reads_of scope space c in
+      let t = n + own.size in
+      let parts = front IsPlaced (elements c ++ xs) ys h in
+      both (HoldsPoint scope) ((served own (test_deed c)).points context n m)
+      (x.points (under t true context) (t + 1) (taken context.off own.offs m) ++ y.points (under t false context) (t + 1 + x.size) (taken context.off (own.offs + x.offs) m))
+      (plain_inside c (test_deed c) (λ context n. no_cells scope 0 (omega arith)) (front IsPlaced (elements c) xs parts) context n m)
+      (both (HoldsPoint scope) (x.points (under t true context) (t + 1) (taken context.off own.offs m)) (y.points (under t false context) (t + 1 + x.size) (taken context.off (own.offs + x.offs) m))
+      (f (back IsPlaced (elements c) xs parts) (under t true context) (t + 1) (taken context.off own.offs m))
+      (g (back IsPlaced (elements c ++ xs) ys h) (under t false context) (t + 1 + x.size) (taken context.off (own.offs + x.offs) m)))
 
-  body_known : (ys : List Keeping) (site : Site) (walk : Walk)
-      → Each (Placed scope course) (flat_map (λ p. p) (map places (bare ys))) → AllInside scope walk → AllInside scope (put_body scope course (bare ys) site walk)
-  body_known [] site walk e h = h
-  body_known (y ∷ ys) site walk e h =
-      let own : List Place = places y.0 in
-      let rest : List Place = flat_map (λ p. p) (map places (bare ys)) in
-      body_known ys site (put_stmt scope course y.0 site walk) (back (Placed scope course) own rest e) (y.1 site walk (front (Placed scope course) own rest e) h)
-
-  -- the reads of an expression and a point of no cells
-  plain_inside : (x : Expr) (site : Site) (walk : Walk) → Each (Placed scope course) (elements x) → AllInside scope walk
-      → AllInside scope (put_plain site (put_reads scope course x site walk))
-  plain_inside x site walk e h = All-push (IsInside scope) (put_reads scope course x site walk).points _ (reads_inside x site walk e h) (no_cells scope)
-
-  by_stmt : (y : BodyStmt-F Keeping) → Keeps (roll-BodyStmt (map-BodyStmt Keeping BodyStmt (λ z. z.0) y))
-  by_stmt (BodyStmt-F.Assign at x) = subst Keeps (sym (b.rolls-Assign at x)) (λ site walk e h.
-      let all : Each (Placed scope course) ((at ∷ elements at.index) ++ elements x) = subst (Each (Placed scope course)) (bodies.places-Assign at x) e in
-      subst (AllInside scope) (sym (stmts.stmt-Assign scope course at x site walk))
-      (put_inside scope Write (array_at scope at.array) (line_of_index scope course at.index) site (put_reads scope course x site walk)
-      (reads_inside x site walk (back (Placed scope course) (at ∷ elements at.index) (elements x) all) h) all.0))
-  by_stmt (BodyStmt-F.Let text x) = subst Keeps (sym (b.rolls-Let text x)) (λ site walk e h.
-      subst (AllInside scope) (sym (stmts.stmt-Let scope course text x site walk))
-      (plain_inside x site walk (subst (Each (Placed scope course)) (bodies.places-Let text x) e) h))
-  by_stmt (BodyStmt-F.Combine text x) = subst Keeps (sym (b.rolls-Combine text x)) (λ site walk e h.
-      subst (AllInside scope) (sym (stmts.stmt-Combine scope course text x site walk))
-      (plain_inside x site walk (subst (Each (Placed scope course)) (bodies.places-Combine text x) e) h))
-  by_stmt (BodyStmt-F.If x ys None) =
-      let xs = bare ys in
-      subst Keeps (sym (b.rolls-If x xs None)) (λ site walk e h.
-      let own : List Place = flat_map (λ p. p) (map places xs) in
-      let all : Each (Placed scope course) (elements x ++ own ++ []) = subst (Each (Placed scope course)) (bodies.places-If x xs None) e in
-      subst (AllInside scope) (sym (stmts.stmt-If scope course x xs site walk))
-      (body_known ys (under (stmts.test_number scope course x site walk) true site) (put_plain site (put_reads scope course x site walk))
-      (back (Placed scope course) (elements x) own (front (Placed scope course) (elements x ++ own) [] all))
-      (plain_inside x site walk (front (Placed scope course) (elements x) own (front (Placed scope course) (elements x ++ own) [] all)) h)))
-  by_stmt (BodyStmt-F.If x ys (Some zs)) =
-      let xs = bare ys in
-      let us = bare zs in
-      subst Keeps (sym (b.rolls-If x xs (Some us))) (λ site walk e h.
-      let own : List Place = flat_map (λ p. p) (map places xs) in
-      let other : List Place = flat_map (λ p. p) (map places us) in
-      let all : Each (Placed scope course) (elements x ++ own ++ other) = subst (Each (Placed scope course)) (bodies.places-If x xs (Some us)) e in
-      let parts : Each (Placed scope course) (elements x ++ own) = front (Placed scope course) (elements x ++ own) other all in
-      let behind : Walk = put_plain site (put_reads scope course x site walk) in
-      subst (AllInside scope) (sym (stmts.stmt-If-else scope course x xs us site walk))
-      (body_known zs (under (stmts.test_number scope course x site walk) false site) (stmts.first_branch scope course x xs site walk)
-      (back (Placed scope course) (elements x ++ own) other all)
-      (body_known ys (under (stmts.test_number scope course x site walk) true site) behind
-      (back (Placed scope course) (elements x) own parts)
-      (plain_inside x site walk (front (Placed scope course) (elements x) own parts) h))))
-  by_stmt (BodyStmt-F.VecOff ys) =
-      let xs = bare ys in
-      subst Keeps (sym (b.rolls-VecOff xs)) (λ site walk e h.
-      subst (AllInside scope) (sym (stmts.stmt-VecOff scope course xs site walk))
-      (body_known ys (off_site walk site) (off_walk site walk) (subst (Each (Placed scope course)) (bodies.places-VecOff xs) e) (off_inside site walk h)))
-  by_stmt (BodyStmt-F.Ordered at o x) = subst Keeps (sym (b.rolls-Ordered at o x)) (λ site walk e h.
-      let all : Each (Placed scope course) ((at ∷ elements at.index) ++ elements x) = subst (Each (Placed scope course)) (bodies.places-Ordered at o x) e in
-      let behind : Walk = off_walk site (put_reads scope course x site walk) in
-      subst (AllInside scope) (sym (stmts.stmt-Ordered scope course at o x site walk))
-      (put_inside scope Update (array_at scope at.array) (line_of_index scope course at.index) (off_site walk site) behind
-      (off_inside site (put_reads scope course x site walk) (reads_inside x site walk (back (Placed scope course) (at ∷ elements at.index) (elements x) all) h)) all.0))
-
-  pub stmt_inside : (x : BodyStmt) → Keeps x
-  stmt_inside = ind-BodyStmt Keeps (λ x y is. subst (λ z. Keeps (roll-BodyStmt z)) is (by_stmt y))
-
-  pub body_inside : (xs : List BodyStmt) (site : Site) (walk : Walk) → Each (Placed scope course) (flat_map places xs) → AllInside scope walk
-      → AllInside scope (put_body scope course xs site walk)
-  body_inside [] site walk e h = h
-  body_inside (x ∷ xs) site walk e h =
-      let own : List Place = places x in
-      let rest : List Place = flat_map places xs in
-      body_inside xs site (put_stmt scope course x site walk) (back (Placed scope course) own rest e) (stmt_inside x site walk (front (Placed scope course) own rest e) h)
+  pub body_inside : (xs : List BodyStmt) → Each IsPlaced (flat_map places xs) → AllHeld scope (body_piece scope space xs)
+  body_inside =
+      by_bodies scope space IsInside none_inside more_inside
+      (λ at x h context n m. both (HoldsPoint scope) ((both_reads scope space at x).points context n m) (_ ∷ []) (both_inside at x h context n m) (shown_held at context n h.0, tt))
+      (λ name x h. plain_inside x (note_deed x) (λ context n. no_cells scope 0 (omega arith)) h)
+      (λ name x h. plain_inside x (give_deed name x) (λ context n. no_cells scope 0 (omega arith)) h)
+      branches_inside
+      (λ xs i x f h context n m. f h (off_from m context) n m)
+      (λ at op x h context n m. both (HoldsPoint scope) ((both_reads scope space at x).points context n m) (_ ∷ []) (both_inside at x h context n m) (shown_held at context n h.0, tt))

@@ -14,7 +14,9 @@ use Rattle.pts_affine.specs.Lines.{cell}
 use Rattle.pts_rules.specs.Parts.{Name}
 use Rattle.pts_rules.specs.Known.{Scope, as_array, is_array, array_number, meaning_of}
 use Rattle.pts_rules.specs.Indices.{leaves, Along, length_of}
-use Rattle.pts_points.specs.Points.{clamp, clamped, small, array_at}
+use Rattle.pts_points.specs.Lines.{array_at}
+use Rattle.pts_points.specs.Widths.{clamp, small}
+use Rattle.pts_points.specs.Building.{kept_line}
 use Rattle.pts_points.specs.Inside.{lengths, length_at, IsWithin, HasRoom}
 
 -- ---- numbers that are kept
@@ -86,10 +88,13 @@ starts line size short level still stays (suc (suc k)) is =
       rises = rising line.c line.d size low short (next_high line.c line.d size j.1);
     }
 
+few_in_word : (n : ℕ) → n ≤ 2 ^ 20 → n ≤ 2 ^ 32 - 1
+few_in_word n h = omega (arith, h)
+
 -- a line that stays in its array loses nothing
-pub clamped_same : (line : Line) (size : ℤ) → size ≤ℤ pos (2 ^ 20) → (line.n ≤ 1 → line.c ≡ pos 0) → (line.n ≡ 0 → line.d ≡ pos 0)
-    → ((p : ℕ) → leaves p (Along line size) ≡ false) → clamped line ≡ line
-clamped_same line size short level still stays =
+pub line_same : (line : Line) (size : ℤ) → size ≤ℤ pos (2 ^ 20) → line.n ≤ 2 ^ 20 → (line.n ≤ 1 → line.c ≡ pos 0) → (line.n ≡ 0 → line.d ≡ pos 0)
+    → ((p : ℕ) → leaves p (Along line size) ≡ false) → kept_line line ≡ line
+line_same line size short few level still stays =
     let s : Start line = starts line size short level still stays line.n refl in
     let low : pos 0 ≤ℤ line.d = s.low in
     let high : line.d <ℤ pos (2 ^ 20) = s.high in
@@ -97,7 +102,8 @@ clamped_same line size short level still stays =
     let rises : line.c <ℤ pos (2 ^ 20) = s.rises in
     let c : clamp line.c ≡ line.c = clamp_same line.c (grind (arith, falls)) (grind (arith, rises)) in
     let d : clamp line.d ≡ line.d = clamp_same line.d (grind (arith, low)) (grind (arith, high)) in
-    λ i. record { c = c i; d = d i; n = line.n }
+    let n : small line.n ≡ line.n = small_same line.n (few_in_word line.n few) in
+    λ i. record { c = c i; d = d i; n = n i }
 
 -- ---- the numbers of arrays and their lengths
 
@@ -144,16 +150,24 @@ numbered (entry ∷ scope) name =
       | false ↦ later (as_array entry.1) (lengths scope) (array_number scope name) (length_of scope name) (numbered scope name)
     ]
 
-found : (sizes : List ℤ) (r : Option ℕ) (size z : ℤ) → Numbered sizes r size → length sizes ≤ 2 ^ 32 - 1 → pos 0 ≤ℤ z → z <ℤ size
-    → z <ℤ get_or sizes (elim r [ None ↦ 0 | Some n ↦ small n ]) (pos 0)
-found sizes None size z h few low high = let e : size ≡ pos 0 = h in absurd (grind (arith, e, low, high))
-found sizes (Some n) size z h few low high =
-    let l : n < length sizes = h.1 in
-    subst (λ k. z <ℤ get_or sizes k (pos 0)) (sym (small_same n (omega (arith, l, few)))) (subst (λ s. z <ℤ s) (sym h.0) high)
+found : (sizes : List ℤ) (r : Option ℕ) (size z : ℤ) → Numbered sizes r size → pos 0 ≤ℤ z → z <ℤ size → z <ℤ get_or sizes (elim r [ None ↦ 0 | Some n ↦ n ]) (pos 0)
+found sizes None size z h low high = let e : size ≡ pos 0 = h in absurd (grind (arith, e, low, high))
+found sizes (Some n) size z h low high = subst (λ s. z <ℤ s) (sym h.0) high
 
 -- a cell of a named array is one of the array of its number
-pub at_number : (scope : Scope) → HasRoom scope → (name : Name) (z : ℤ) → pos 0 ≤ℤ z → z <ℤ length_of scope name → z <ℤ length_at scope (array_at scope name)
-at_number scope room name z low high = found (lengths scope) (array_number scope name) (length_of scope name) z (numbered scope name) room.few low high
+pub at_number : (scope : Scope) (name : Name) (z : ℤ) → pos 0 ≤ℤ z → z <ℤ length_of scope name → z <ℤ length_at scope (array_at scope name)
+at_number scope name z low high = found (lengths scope) (array_number scope name) (length_of scope name) z (numbered scope name) low high
+
+few_by : (sizes : List ℤ) (r : Option ℕ) (size : ℤ) → Numbered sizes r size → length sizes ≤ 2 ^ 32 - 1 → elim r [ None ↦ 0 | Some n ↦ n ] ≤ 2 ^ 32 - 1
+few_by sizes None size h few = omega arith
+few_by sizes (Some n) size h few = let l : n < length sizes = h.1 in omega (arith, l, few)
+
+-- the number of an array is kept as it is
+pub array_few : (scope : Scope) → HasRoom scope → (name : Name) → array_at scope name ≤ 2 ^ 32 - 1
+array_few scope room name = few_by (lengths scope) (array_number scope name) (length_of scope name) (numbered scope name) room.few
+
+pub array_same : (scope : Scope) (name : Name) (result : ℕ) → HasRoom scope → result ≡ small (array_at scope name) → result ≡ array_at scope name
+array_same scope name result room e = e ∙ small_same (array_at scope name) (array_few scope room name)
 
 short_by : (sizes : List ℤ) (r : Option ℕ) (size : ℤ) → Numbered sizes r size → All (λ z. z ≤ℤ pos (2 ^ 20)) sizes → size ≤ℤ pos (2 ^ 20)
 short_by sizes None size h all = let e : size ≡ pos 0 = h in grind (arith, e)
@@ -170,7 +184,7 @@ pub within : (scope : Scope) → HasRoom scope → (name : Name) (line : Line) �
 within scope room name line few level cells =
     let short : length_of scope name ≤ℤ pos (2 ^ 20) = is_short scope room name in
     record {
-      cells = λ p h. ((cells p h).0, at_number scope room name (cell line p) (cells p h).0 (cells p h).1);
+      cells = λ p h. ((cells p h).0, at_number scope name (cell line p) (cells p h).0 (cells p h).1);
       bounded = record {
         cells = λ p h. ((cells p h).0, (let high : cell line p <ℤ length_of scope name = (cells p h).1 in grind (arith, high, short)));
         positions = few;

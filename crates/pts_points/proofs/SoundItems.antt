@@ -1,13 +1,12 @@
--- The points of a sound item lie in their arrays.
-use Rattle.std.proofs.Common.{◌≡◌, ℕ, ◌-◌, ◌^◌, ◌<◌, ◌≤◌, Bool, true, false, ℤ, pos, negsuc, ◌+ℤ◌, ◌*ℤ◌, ◌-ℤ◌, Option, Some, None, List, [], ◌∷◌, ◌++◌, map, refl, sym, subst, ◌∙◌, arith}
+-- The points of a sound item lie in their arrays, and none of their numbers is cut.
+use Rattle.std.proofs.Common.{◌≡◌, ℕ, ◌+◌, ◌-◌, ◌^◌, ◌<◌, ◌≤◌, Bool, true, false, ℤ, pos, negsuc, ◌+ℤ◌, ◌*ℤ◌, ◌-ℤ◌, Option, Some, None, List, [], ◌∷◌, ◌++◌, map, refl, arith}
 use Rattle.std.specs.Prelude.{◌≤ℤ◌, ◌<ℤ◌, ◌==◌, ◌&&◌, ◌||◌, nat_le, nat_lt, int_lt, if◌then◌else◌, is_some, flat_map, All}
 use Rattle.std.specs.List.{list_all}
 use Rattle.std.proofs.lemmas.Int.{ints}
 use Rattle.std.proofs.lemmas.Bool.{and_parts, or_parts, false≢true}
-use Rattle.std.proofs.lemmas.List.Elements.{All-nil, All-head, All-tail}
+use Rattle.std.proofs.lemmas.List.Elements.{All-head, All-tail}
 use Rattle.pts_types.specs.declared.value.Kind.TheVariants as kinds
 use Rattle.pts_types.specs.Arithmetic.{least_i64, greatest_i64}
-use Rattle.pts_affine.specs.declared.line.Line.{Line}
 use Rattle.pts_tree.specs.Spelling.{if_there}
 use Rattle.pts_tree.specs.declared.sum.Sum.{Sum}
 use Rattle.pts_tree.specs.declared.sum.Range.{Range}
@@ -23,19 +22,19 @@ use Rattle.pts_tree.specs.declared.loops.Initial.TheVariants as initials
 use Rattle.pts_tree.specs.declared.script.Item.{Item}
 use Rattle.pts_rules.specs.Parts.{Simple, Throw, Assign, Call, Loop, statements}
 use Rattle.pts_rules.specs.Known.{Scope, kind_of_array, has, holds, is_place, number, natural, sum_is, sum_value}
-use Rattle.pts_rules.specs.Counts.{loop_positions, positions, step_of}
+use Rattle.pts_rules.specs.Counts.{loop_positions, step_of}
 use Rattle.pts_rules.specs.Indices.{reaches, Reach, Span, line_of, length_of, place_reach, cell_reach, range_reach, clause_reach, reach_of, loop_line, elements, places}
 use Rattle.pts_rules.specs.Mistyped.{all_right, body_scope, checked_stmt, clause_right, range_right, call_right, loop_right, form_right}
 use Rattle.pts_rules.specs.Steps.{is_backward, goes_backward}
-use Rattle.pts_points.specs.declared.point.PointForm.{PointForm}
-use Rattle.pts_points.specs.declared.point.PointForm.TheVariants.{Read, Write, LiveOut, Into}
-use Rattle.pts_points.specs.declared.course.Course.{Course}
-use Rattle.pts_points.specs.declared.walk.Site.{Site}
-use Rattle.pts_points.specs.declared.walk.Walk.{Walk}
-use Rattle.pts_points.specs.Points.{clamp, clamped, small, amount, array_at, range_line, line_of_range, line_of_cell, one_turn, course_of, put_range, put_cell, put_there, put_own, put_call, put_initial, put_clause, put_clauses, put_loop, put_body, put_reads, put_statement, put_statements, site_of, next_call, no_walk, points_of}
-use Rattle.pts_points.specs.Inside.{IsWithin, IsInside, HasRoom, IsSound}
-use Rattle.pts_points.proofs.Ranges.{clamped_same, clamp_same, small_same, in_array, is_short, within}
-use Rattle.pts_points.proofs.Interiors.{Each, front, back, Stays, each_stays, Placed, all_placed, AllInside, put_inside, reads_inside, body_inside}
+use Rattle.pts_points.specs.Lines.{array_at, cells_from, line_of_range, line_of_cell, space_of, no_loop}
+use Rattle.pts_points.specs.Widths.{clamp}
+use Rattle.pts_points.specs.Pieces.{Along, Deed, Reads, Fills, LivesOut, Answers, Piece, taken, seeing, nothing, behind, sequence, alone}
+use Rattle.pts_points.specs.Points.{array_of, line_of_deed, live_out, initial_piece, clause_piece, loop_piece, source_piece, target_piece, answer_piece, piece_of, own_piece, call_piece, reads_of, statement_piece, context_of, calls_in, points_from, item_points, info, points_of, body_piece}
+use Rattle.pts_points.specs.Inside.{IsInside, HasRoom, IsSound}
+use Rattle.pts_points.specs.Building.{IsKept, AreKept}
+use Rattle.pts_points.proofs.Each.{Each, front, back, both, weaker, all_of, mapped}
+use Rattle.pts_points.proofs.Ranges.{clamp_same, small_same, is_short, array_few, within}
+use Rattle.pts_points.proofs.Interiors.{Stays, each_stays, IsHeld, HoldsPoint, AllHeld, line_held, all_placed, reads_inside, body_inside}
 
 -- ---- numbers
 
@@ -48,9 +47,6 @@ place_bounds z h = grind (arith, h)
 
 word_bounds : (z : ℤ) → holds kinds.I64 z ≡ true → (least_i64 ≤ℤ z) × (z ≤ℤ greatest_i64)
 word_bounds z h = grind (arith, h)
-
-word_kept : (z : ℤ) → holds kinds.I64 z ≡ true → clamp z ≡ z
-word_kept z h = clamp_same z (word_bounds z h).0 (word_bounds z h).1
 
 natural_same : (z : ℤ) → pos 0 ≤ℤ z → pos (natural z) ≡ z
 natural_same (pos n) h = refl
@@ -94,9 +90,16 @@ wide_cells low high size k count fits = omega (arith, ints, count, fits)
 level_range : (k : ℕ) → k ≤ 1 → (if nat_le k 1 then pos 0 else pos 1) ≡ pos 0
 level_range k h = grind (arith, h)
 
-pub range_within : (scope : Scope) → HasRoom scope → (x : Range) → range_right scope x ≡ true → is_backward scope x ≡ false → Each Stays (range_reach scope x)
-    → IsWithin scope (array_at scope x.array) (line_of_range scope x)
-range_within scope room x right forward stays =
+slope_kept : (k : ℕ) → clamp (if nat_le k 1 then pos 0 else pos 1) ≡ (if nat_le k 1 then pos 0 else pos 1)
+slope_kept k = by_width (nat_le k 1)
+  where
+    by_width : (t : Bool) → clamp (if t then pos 0 else pos 1) ≡ (if t then pos 0 else pos 1)
+    by_width true = refl
+    by_width false = refl
+
+pub range_held : (scope : Scope) → HasRoom scope → (x : Range) → range_right scope x ≡ true → is_backward scope x ≡ false → Each Stays (range_reach scope x)
+    → IsHeld scope (array_at scope x.array) (line_of_range scope x)
+range_held scope room x right forward stays =
     let low : ℤ = number scope x.low in
     let high : ℤ = number scope x.high in
     let size : ℤ = length_of scope x.array in
@@ -104,11 +107,7 @@ range_within scope room x right forward stays =
     let p1 : ((is_some (kind_of_array scope x.array) && sum_is scope is_place x.low) ≡ true) × (sum_is scope is_place x.high ≡ true) = and_parts _ _ sides in
     let p2 : (is_some (kind_of_array scope x.array) ≡ true) × (sum_is scope is_place x.low ≡ true) = and_parts _ _ p1.0 in
     let l : (pos 0 ≤ℤ low) × (low ≤ℤ greatest_i64) = place_bounds low (known_number (sum_value scope x.low) is_place p2.1) in
-    let h : (pos 0 ≤ℤ high) × (high ≤ℤ greatest_i64) = place_bounds high (known_number (sum_value scope x.high) is_place p1.1) in
     let l0 : pos 0 ≤ℤ low = l.0 in
-    let l1 : low ≤ℤ greatest_i64 = l.1 in
-    let h0 : pos 0 ≤ℤ high = h.0 in
-    let h1 : high ≤ℤ greatest_i64 = h.1 in
     let ordered : low ≤ℤ high = not_less high low forward in
     let fits : high ≤ℤ size = span_end low high size stays.0 in
     let short : size ≤ℤ pos (2 ^ 20) = is_short scope room x.array in
@@ -117,58 +116,65 @@ range_within scope room x right forward stays =
     let count : pos k ≡ high -ℤ low = natural_same (high -ℤ low) rest in
     let few : k ≤ 2 ^ 20 = few_cells low high size k count l0 fits short in
     let wide : (low +ℤ pos k) ≤ℤ size = wide_cells low high size k count fits in
-    let line : Line = record { c = if nat_le k 1 then pos 0 else pos 1; d = low; n = k } in
-    let same : line_of_range scope x ≡ line =
-    (λ i. range_line (kept_place low l0 l1 i) (kept_place high h0 h1 i))
-    ∙ (λ i. record { c = if nat_le k 1 then pos 0 else pos 1; d = low; n = small_same k (few_in_word k few) i }) in
-    subst (IsWithin scope (array_at scope x.array)) (sym same) (within scope room x.array line few (level_range k) (range_cells low size k l0 wide))
+    record {
+      inside = within scope room x.array (cells_from low k) few (level_range k) (range_cells low size k l0 wide);
+      kept = λ i. record { c = slope_kept k i; d = kept_place low l0 l.1 i; n = small_same k (few_in_word k few) i };
+      few = array_few scope room x.array;
+    }
 
-pub cell_within : (scope : Scope) → HasRoom scope → (x : Cell) → Each Stays (cell_reach scope x) → IsWithin scope (array_at scope x.array) (line_of_cell scope x)
-cell_within scope room x stays =
-    let size : ℤ = length_of scope x.array in
-    let line : Line = record { c = pos 0; d = number scope x.index; n = 1 } in
-    let kept : clamped line ≡ line = clamped_same line size (is_short scope room x.array) (λ h. refl) (λ h. absurd (omega (arith, h))) stays.0 in
-    let same : line_of_cell scope x ≡ line = λ i. record { c = pos 0; d = (kept i).d; n = 1 } in
-    subst (IsWithin scope (array_at scope x.array)) (sym same)
-    (within scope room x.array line (omega arith) (λ h. refl) (λ p h. in_array line size p (stays.0 p) h))
+pub cell_held : (scope : Scope) → HasRoom scope → (x : Cell) → Each Stays (cell_reach scope x) → IsHeld scope (array_at scope x.array) (line_of_cell scope x)
+cell_held scope room x stays = line_held scope room x.array (line_of_cell scope x) (omega arith) (λ h. refl) (λ h. absurd (omega (arith, h))) stays.0
+
+-- ---- pieces
+
+pub behind_held : (scope : Scope) (x y : Piece) → AllHeld scope x → AllHeld scope y → AllHeld scope (behind x y)
+behind_held scope x y f g context n m =
+    both (HoldsPoint scope) (x.points context n m) (y.points (seeing (x.lets context n) context) (n + x.size) (taken context.off x.offs m)) (f context n m)
+    (g (seeing (x.lets context n) context) (n + x.size) (taken context.off x.offs m))
+
+none_held : (scope : Scope) → AllHeld scope nothing
+none_held scope context n m = tt
+
+alone_held : (scope : Scope) (deed : Deed) → IsHeld scope (array_of deed) (line_of_deed deed) → AllHeld scope (alone deed)
+alone_held scope deed h context n m = (h, tt)
 
 -- ---- calls
 
 module _ (scope : Scope) (room : HasRoom scope) where
-  range_inside : (form : PointForm) (x : Range) (site : Site) (walk : Walk) → range_right scope x ≡ true → is_backward scope x ≡ false → Each Stays (range_reach scope x)
-      → AllInside scope walk → AllInside scope (put_range scope form x site walk)
-  range_inside form x site walk right forward stays h =
-      put_inside scope form (array_at scope x.array) (line_of_range scope x) site walk h (range_within scope room x right forward stays)
+  abbrev RangeRight : Range → Type 0
+  RangeRight x = (range_right scope x ≡ true) × (is_backward scope x ≡ false) × Each Stays (range_reach scope x)
 
-  optional_inside : (form : PointForm) (x : Option Range) (site : Site) (walk : Walk) → if_there (range_right scope) x ≡ true → has (is_backward scope) x ≡ false
-      → Each Stays (reach_of (range_reach scope) x) → AllInside scope walk → AllInside scope (put_there (put_range scope form) x site walk)
-  optional_inside form None site walk right forward stays h = h
-  optional_inside form (Some x) site walk right forward stays h = range_inside form x site walk right forward stays h
+  source_held : (x : Range) → RangeRight x → AllHeld scope (source_piece scope x)
+  source_held x h = alone_held scope (Reads (array_at scope x.array) (Along (line_of_range scope x))) (range_held scope room x h.0 h.1 h.2)
 
-  cell_inside : (form : PointForm) (x : Cell) (site : Site) (walk : Walk) → Each Stays (cell_reach scope x) → AllInside scope walk → AllInside scope (put_cell scope form x site walk)
-  cell_inside form x site walk stays h = put_inside scope form (array_at scope x.array) (line_of_cell scope x) site walk h (cell_within scope room x stays)
+  target_held : (x : Range) → RangeRight x → AllHeld scope (target_piece scope x)
+  target_held x h = alone_held scope (Fills (array_at scope x.array) (line_of_range scope x)) (range_held scope room x h.0 h.1 h.2)
 
-  store_inside : (x : Option Cell) (site : Site) (walk : Walk) → Each Stays (reach_of (cell_reach scope) x) → AllInside scope walk → AllInside scope (put_there (put_cell scope Into) x site walk)
-  store_inside None site walk stays h = h
-  store_inside (Some x) site walk stays h = cell_inside Into x site walk stays h
+  optional_held : (f : Range → Piece) → ((x : Range) → RangeRight x → AllHeld scope (f x)) → (x : Option Range) → if_there (range_right scope) x ≡ true → has (is_backward scope) x ≡ false
+      → Each Stays (reach_of (range_reach scope) x) → AllHeld scope (piece_of f x)
+  optional_held f held None right forward stays = none_held scope
+  optional_held f held (Some x) right forward stays = held x (right, forward, stays)
 
-  own_inside : (form : CallForm) (x : Range) (site : Site) (walk : Walk) → range_right scope x ≡ true → is_backward scope x ≡ false → Each Stays (range_reach scope x)
-      → AllInside scope walk → AllInside scope (put_own scope form x site walk)
-  own_inside forms.ForEach x site walk right forward stays h = range_inside Write x site walk right forward stays h
-  own_inside forms.Transform x site walk right forward stays h = h
-  own_inside forms.FindIf x site walk right forward stays h = h
-  own_inside forms.CountIf x site walk right forward stays h = h
-  own_inside forms.Reduce x site walk right forward stays h = h
-  own_inside forms.TransformReduce x site walk right forward stays h = h
-  own_inside forms.InclusiveScan x site walk right forward stays h = h
-  own_inside forms.ExclusiveScan x site walk right forward stays h = h
-  own_inside forms.TransformInclusiveScan x site walk right forward stays h = h
-  own_inside forms.TransformExclusiveScan x site walk right forward stays h = h
+  answer_held : (x : Option Cell) → Each Stays (reach_of (cell_reach scope) x) → AllHeld scope (piece_of (answer_piece scope) x)
+  answer_held None stays = none_held scope
+  answer_held (Some x) stays = alone_held scope (Answers (array_at scope x.array) (line_of_cell scope x)) (cell_held scope room x stays)
 
-  call_inside : (x : call.Call) (site : Site) (walk : Walk) → call_right scope x ≡ true → goes_backward scope (Call x) ≡ false
+  own_held : (form : CallForm) (x : Range) → RangeRight x → AllHeld scope (own_piece scope form x)
+  own_held forms.ForEach x h = target_held x h
+  own_held forms.Transform x h = none_held scope
+  own_held forms.FindIf x h = none_held scope
+  own_held forms.CountIf x h = none_held scope
+  own_held forms.Reduce x h = none_held scope
+  own_held forms.TransformReduce x h = none_held scope
+  own_held forms.InclusiveScan x h = none_held scope
+  own_held forms.ExclusiveScan x h = none_held scope
+  own_held forms.TransformInclusiveScan x h = none_held scope
+  own_held forms.TransformExclusiveScan x h = none_held scope
+
+  call_held : (x : call.Call) → call_right scope x ≡ true → goes_backward scope (Call x) ≡ false
       → Each Stays (range_reach scope x.first ++ reach_of (range_reach scope) x.second ++ reach_of (range_reach scope) x.target ++ reach_of (cell_reach scope) x.store)
-      → AllInside scope walk → AllInside scope (put_call scope x site walk)
-  call_inside x site walk right forward stays h =
+      → AllHeld scope (call_piece scope x) × RangeRight x.first
+  call_held x right forward stays =
       let first : List Reach = range_reach scope x.first in
       let second : List Reach = reach_of (range_reach scope) x.second in
       let target : List Reach = reach_of (range_reach scope) x.target in
@@ -186,46 +192,90 @@ module _ (scope : Scope) (room : HasRoom scope) where
       let f : Bool = has (is_backward scope) x.target in
       let f1 : ((d || e) ≡ false) × (f ≡ false) = or_parts (d || e) f forward in
       let f2 : (d ≡ false) × (e ≡ false) = or_parts d e f1.0 in
-      let own : Each Stays first = front Stays first second s2 in
-      let one : Walk = put_range scope Read x.first site walk in
-      let two : Walk = put_there (put_range scope Read) x.second site one in
-      let three : Walk = put_own scope x.form x.first site two in
-      let four : Walk = put_there (put_range scope Write) x.target site three in
-      let w1 : AllInside scope one = range_inside Read x.first site walk r3.0 f2.0 own h in
-      let w2 : AllInside scope two = optional_inside Read x.second site one r3.1 f2.1 (back Stays first second s2) w1 in
-      let w3 : AllInside scope three = own_inside x.form x.first site two r3.0 f2.0 own w2 in
-      let w4 : AllInside scope four = optional_inside Write x.target site three r2.1 f1.1 (back Stays (first ++ second) target s1) w3 in
-      store_inside x.store site four (back Stays (first ++ second ++ target) store stays) w4
+      let own : RangeRight x.first = (r3.0, f2.0, front Stays first second s2) in
+      let reading = behind_held scope (source_piece scope x.first) (piece_of (source_piece scope) x.second) (source_held x.first own)
+      (optional_held (source_piece scope) source_held x.second r3.1 f2.1 (back Stays first second s2)) in
+      let ending = behind_held scope (piece_of (target_piece scope) x.target) (piece_of (answer_piece scope) x.store)
+      (optional_held (target_piece scope) target_held x.target r2.1 f1.1 (back Stays (first ++ second) target s1)) (answer_held x.store (back Stays (first ++ second ++ target) store stays)) in (
+        behind_held scope (behind (source_piece scope x.first) (piece_of (source_piece scope) x.second))
+            (behind (own_piece scope x.form x.first) (behind (piece_of (target_piece scope) x.target) (piece_of (answer_piece scope) x.store))) reading
+            (behind_held scope (own_piece scope x.form x.first) (behind (piece_of (target_piece scope) x.target) (piece_of (answer_piece scope) x.store)) (own_held x.form x.first own) ending),
+        own,
+      )
 
   -- ---- loops
 
-  initial_inside : (x : Initial) (site : Site) (walk : Walk) → Each Stays (elim x [ initials.Val y ↦ [] | initials.Cell y ↦ cell_reach scope y ]) → AllInside scope walk
-      → AllInside scope (put_initial scope x site walk)
-  initial_inside (initials.Val x) site walk stays h = h
-  initial_inside (initials.Cell x) site walk stays h = cell_inside LiveOut x site walk stays h
+  live_out_held : (x : Cell) → Each Stays (cell_reach scope x) → AllHeld scope (live_out scope x)
+  live_out_held x stays = alone_held scope (LivesOut (array_at scope x.array) (line_of_cell scope x)) (cell_held scope room x stays)
 
-  clause_inside : (x : Clause) (site : Site) (walk : Walk) → Each Stays (clause_reach scope x) → AllInside scope walk → AllInside scope (put_clause scope x site walk)
-  clause_inside (clauses.Reduce x) site walk stays h = cell_inside LiveOut x.cell site walk stays h
-  clause_inside (clauses.Induct x) site walk stays h = initial_inside x.initial site walk stays h
+  initial_held : (x : Initial) → Each Stays (elim x [ initials.Val y ↦ [] | initials.Cell y ↦ cell_reach scope y ]) → AllHeld scope (initial_piece scope x)
+  initial_held (initials.Val x) stays = none_held scope
+  initial_held (initials.Cell x) stays = live_out_held x stays
 
-  clauses_inside : (xs : List Clause) (site : Site) (walk : Walk) → Each Stays (flat_map (clause_reach scope) xs) → AllInside scope walk
-      → AllInside scope (put_clauses scope xs site walk)
-  clauses_inside [] site walk stays h = h
-  clauses_inside (x ∷ xs) site walk stays h =
-      let own : List Reach = clause_reach scope x in
-      let rest : List Reach = flat_map (clause_reach scope) xs in
-      clauses_inside xs site (put_clause scope x site walk) (back Stays own rest stays) (clause_inside x site walk (front Stays own rest stays) h)
+  clause_held : (x : Clause) → Each Stays (clause_reach scope x) → AllHeld scope (clause_piece scope x)
+  clause_held (clauses.Reduce x) stays = live_out_held x.cell stays
+  clause_held (clauses.Induct x) stays = initial_held x.initial stays
 
-  -- the course of a loop whose numbers are kept
-  abbrev whole_course : loops.Loop → Course
-  whole_course x = record { index = Some x.index; first = number scope x.low; step = step_of scope x.step; positions = loop_positions scope x }
+  clauses_held : (xs : List Clause) → Each Stays (flat_map (clause_reach scope) xs) → AllHeld scope (sequence (map (clause_piece scope) xs))
+  clauses_held [] stays = none_held scope
+  clauses_held (x ∷ xs) stays =
+      behind_held scope (clause_piece scope x) (sequence (map (clause_piece scope) xs)) (clause_held x (front Stays (clause_reach scope x) (flat_map (clause_reach scope) xs) stays))
+      (clauses_held xs (back Stays (clause_reach scope x) (flat_map (clause_reach scope) xs) stays))
+
+  loop_held : (x : loops.Loop) → loop_positions scope x ≤ 2 ^ 20
+      → Each Stays (flat_map (clause_reach scope) x.clauses ++ flat_map (place_reach scope (loop_line scope x) (Some x.index)) (flat_map places x.body)) → AllHeld scope (loop_piece scope x)
+  loop_held x few stays =
+      let heads : List Reach = flat_map (clause_reach scope) x.clauses in
+      let bodies : List Reach = flat_map (place_reach scope (loop_line scope x) (Some x.index)) (flat_map places x.body) in
+      behind_held scope (sequence (map (clause_piece scope) x.clauses)) (body_piece scope (space_of scope x) x.body) (clauses_held x.clauses (front Stays heads bodies stays))
+      (body_inside scope room (space_of scope x) few x.body (all_placed scope room (space_of scope x) few (flat_map places x.body) (back Stays heads bodies stays)))
+
+  -- ---- items
+
+  pub statement_held : (x : Simple) → IsSound scope x → AllHeld scope (statement_piece scope x)
+  statement_held (Throw n) sound = none_held scope
+  statement_held (Assign at x) sound =
+      let own : List Reach = cell_reach scope at in
+      let read : List Reach = flat_map (place_reach scope (line_of (pos 0) (pos 0) 1) None) (elements x) in
+      let all : Each Stays (own ++ read) = each_stays (reaches scope (Assign at x)) sound.stays in
+      λ context n m.
+      both (HoldsPoint scope) ((reads_of scope no_loop x).points context n m) (_ ∷ [])
+      (reads_inside scope room no_loop (omega arith) x (all_placed scope room no_loop (omega arith) (elements x) (back Stays own read all)) context n m)
+      (cell_held scope room at (front Stays own read all), tt)
+  statement_held (Call x) sound = (call_held x sound.right sound.forward (each_stays (reaches scope (Call x)) sound.stays)).0
+  statement_held (Loop x) sound = loop_held x (not_more (loop_positions scope x) sound.short) (each_stays (reaches scope (Loop x)) sound.stays)
+
+  pub call_short : (x : call.Call) → IsSound scope (Call x) → (line_of_range scope x.first).n ≤ 2 ^ 20
+  call_short x sound =
+      let own = (call_held x sound.right sound.forward (each_stays (reaches scope (Call x)) sound.stays)).1 in
+      (range_held scope room x.first own.0 own.1 own.2).inside.bounded.positions
+
+  pub loop_short : (x : loops.Loop) → IsSound scope (Loop x) → loop_positions scope x ≤ 2 ^ 20
+  loop_short x sound = not_more (loop_positions scope x) sound.short
+
+  pub all_held : (n m c : ℕ) (xs : List Simple) → All (IsSound scope) xs → Each (HoldsPoint scope) (points_from scope n m c xs)
+  all_held n m c [] all = tt
+  all_held n m c (x ∷ xs) all =
+      let own = statement_piece scope x in
+      both (HoldsPoint scope) (own.points (context_of scope c x) n m) (points_from scope (n + own.size) (m + own.offs) (c + calls_in x) xs)
+      (statement_held x (All-head (IsSound scope) x xs all) (context_of scope c x) n m)
+      (all_held (n + own.size) (m + own.offs) (c + calls_in x) xs (All-tail (IsSound scope) x xs all))
+
+  -- every point of a sound item has its cells in its array
+  pub points_inside : (item earlier : ℕ) (x : Item) → All (IsSound scope) (statements x) → All (IsInside scope) (points_of scope item earlier x)
+  points_inside item earlier x all =
+      all_of (IsInside scope) (points_of scope item earlier x)
+      (mapped (IsInside scope) (info item) (item_points scope earlier x)
+      (weaker (HoldsPoint scope) (λ p. IsInside scope (info item p)) (λ p h. h.inside) (item_points scope earlier x) (all_held 0 0 earlier (statements x) all)))
+
+  -- ---- what is kept
 
   step_right : (x : Option Sum) → if_there (sum_is scope (holds kinds.I64)) x ≡ true → holds kinds.I64 (step_of scope x) ≡ true
   step_right None h = refl
   step_right (Some x) h = known_number (sum_value scope x) (holds kinds.I64) h
 
-  course_kept : (x : loops.Loop) → loop_right scope x ≡ true → loop_positions scope x ≤ 2 ^ 20 → course_of scope x ≡ whole_course x
-  course_kept x right few =
+  space_kept : (x : loops.Loop) → loop_right scope x ≡ true → IsKept (space_of scope x)
+  space_kept x right =
       let a : Bool = sum_is scope (holds kinds.I64) x.low in
       let b : Bool = sum_is scope (holds kinds.I64) x.high in
       let c : Bool = if_there (sum_is scope (holds kinds.I64)) x.step in
@@ -235,41 +285,13 @@ module _ (scope : Scope) (room : HasRoom scope) where
       let r1 : ((a && b && c) ≡ true) × (d ≡ true) = and_parts (a && b && c) d r0.0 in
       let r2 : ((a && b) ≡ true) × (c ≡ true) = and_parts (a && b) c r1.0 in
       let r3 : (a ≡ true) × (b ≡ true) = and_parts a b r2.0 in
-      let low : amount scope x.low ≡ number scope x.low = word_kept (number scope x.low) (known_number (sum_value scope x.low) (holds kinds.I64) r3.0) in
-      let high : amount scope x.high ≡ number scope x.high = word_kept (number scope x.high) (known_number (sum_value scope x.high) (holds kinds.I64) r3.1) in
-      let step : clamp (step_of scope x.step) ≡ step_of scope x.step = word_kept (step_of scope x.step) (step_right x.step r2.1) in
-      (λ i. record { index = Some x.index; first = low i; step = step i; positions = small (positions (low i) (high i) (step i)) })
-      ∙ (λ i. record { index = Some x.index; first = number scope x.low; step = step_of scope x.step; positions = small_same (loop_positions scope x) (omega (arith, few)) i })
+      let first = word_bounds (number scope x.low) (known_number (sum_value scope x.low) (holds kinds.I64) r3.0) in
+      let step = word_bounds (step_of scope x.step) (step_right x.step r2.1) in
+      record { first_low = first.0; first_high = first.1; step_low = step.0; step_high = step.1 }
 
-  loop_inside : (x : loops.Loop) (site : Site) (walk : Walk) → loop_right scope x ≡ true → loop_positions scope x ≤ 2 ^ 20
-      → Each Stays (flat_map (clause_reach scope) x.clauses ++ flat_map (place_reach scope (loop_line scope x) (Some x.index)) (flat_map places x.body))
-      → AllInside scope walk → AllInside scope (put_loop scope x site walk)
-  loop_inside x site walk right few stays h =
-      let heads : List Reach = flat_map (clause_reach scope) x.clauses in
-      let bodies : List Reach = flat_map (place_reach scope (loop_line scope x) (Some x.index)) (flat_map places x.body) in
-      let behind : Walk = put_clauses scope x.clauses site walk in
-      let w : AllInside scope behind = clauses_inside x.clauses site walk (front Stays heads bodies stays) h in
-      let placed : Each (Placed scope (whole_course x)) (flat_map places x.body) = all_placed scope room (whole_course x) few (flat_map places x.body) (back Stays heads bodies stays) in
-      subst (λ course. AllInside scope (put_body scope course x.body site behind)) (sym (course_kept x right few)) (body_inside scope (whole_course x) x.body site behind placed w)
-
-  -- ---- items
-
-  statement_inside : (item earlier : ℕ) (walk : Walk) (x : Simple) → IsSound scope x → AllInside scope walk → AllInside scope (put_statement scope item earlier walk x)
-  statement_inside item earlier walk (Throw n) sound h = h
-  statement_inside item earlier walk (Assign at x) sound h =
-      let site : Site = site_of item None in
-      let all : Each Stays (cell_reach scope at ++ flat_map (place_reach scope (line_of (pos 0) (pos 0) 1) None) (elements x)) = each_stays (reaches scope (Assign at x)) sound.stays in
-      let placed : Each (Placed scope one_turn) (elements x) = all_placed scope room one_turn (omega arith) (elements x) (back Stays (cell_reach scope at) (flat_map (place_reach scope (line_of (pos 0) (pos 0) 1) None) (elements x)) all) in
-      cell_inside Write at site (put_reads scope one_turn x site walk) (front Stays (cell_reach scope at) (flat_map (place_reach scope (line_of (pos 0) (pos 0) 1) None) (elements x)) all) (reads_inside scope one_turn x site walk placed h)
-  statement_inside item earlier walk (Call x) sound h = call_inside x (site_of item (Some (next_call earlier walk))) walk sound.right sound.forward (each_stays (reaches scope (Call x)) sound.stays) h
-  statement_inside item earlier walk (Loop x) sound h =
-      loop_inside x (site_of item (Some (next_call earlier walk))) walk sound.right (not_more (loop_positions scope x) sound.short) (each_stays (reaches scope (Loop x)) sound.stays) h
-
-  statements_inside : (item earlier : ℕ) (walk : Walk) (xs : List Simple) → All (IsSound scope) xs → AllInside scope walk → AllInside scope (put_statements scope item earlier walk xs)
-  statements_inside item earlier walk [] all h = h
-  statements_inside item earlier walk (x ∷ xs) all h =
-      statements_inside item earlier (put_statement scope item earlier walk x) xs (All-tail (IsSound scope) x xs all) (statement_inside item earlier walk x (All-head (IsSound scope) x xs all) h)
-
-  -- every point of a sound item has its cells in its array
-  pub points_inside : (item earlier : ℕ) (x : Item) → All (IsSound scope) (statements x) → All (IsInside scope) (points_of scope item earlier x)
-  points_inside item earlier x all = statements_inside item earlier no_walk (statements x) all (All-nil (IsInside scope))
+  pub sound_kept : (xs : List Simple) → All (IsSound scope) xs → AreKept scope xs
+  sound_kept [] all = tt
+  sound_kept (Throw n ∷ xs) all = (tt, sound_kept xs (All-tail (IsSound scope) (Throw n) xs all))
+  sound_kept (Assign at x ∷ xs) all = (tt, sound_kept xs (All-tail (IsSound scope) (Assign at x) xs all))
+  sound_kept (Call x ∷ xs) all = (tt, sound_kept xs (All-tail (IsSound scope) (Call x) xs all))
+  sound_kept (Loop x ∷ xs) all = (space_kept x (All-head (IsSound scope) (Loop x) xs all).right, sound_kept xs (All-tail (IsSound scope) (Loop x) xs all))

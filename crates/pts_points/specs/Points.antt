@@ -1,15 +1,18 @@
 -- The points and calls of an item, in text order.
-use Rattle.std.specs.Prelude.{ℕ, ◌+◌, ◌-◌, ◌^◌, min, nat_le, Bool, true, false, if◌then◌else◌, Option, Some, None, List, [], ◌∷◌, ◌++◌, length, fold, flat_map, ℤ, pos, ◌-ℤ◌, int_lt}
+use Rattle.std.specs.Prelude.{ℕ, ◌+◌, true, unwrap_or, Option, Some, None, List, [], ◌∷◌, ◌++◌, map}
+use Rattle.pts_types.specs.declared.value.Kind.{Kind}
+use Rattle.pts_types.specs.declared.value.Kind.TheVariants as kinds
 use Rattle.pts_types.specs.declared.operation.Policy.{Policy}
-use Rattle.pts_types.specs.Arithmetic.{least_i64, greatest_i64}
+use Rattle.pts_types.specs.declared.operation.ScalarOp.{ScalarOp}
 use Rattle.pts_affine.specs.declared.line.Line.{Line}
-use Rattle.pts_tree.specs.declared.sum.Sum.{Sum}
 use Rattle.pts_tree.specs.declared.sum.Range.{Range}
 use Rattle.pts_tree.specs.declared.sum.Cell.{Cell}
 use Rattle.pts_tree.specs.declared.call.Call as call
 use Rattle.pts_tree.specs.declared.call.CallForm.{CallForm}
 use Rattle.pts_tree.specs.declared.call.CallForm.TheVariants as forms
 use Rattle.pts_tree.specs.declared.expr.Expr.{Expr}
+use Rattle.pts_tree.specs.declared.expr.Expr.TheOpen.{Expr-F}
+use Rattle.pts_tree.specs.declared.expr.Expr.TheFolds.{para-Expr}
 use Rattle.pts_tree.specs.declared.expr.ChainPart.{ChainPart}
 use Rattle.pts_tree.specs.declared.expr.Place.{Place}
 use Rattle.pts_tree.specs.declared.loops.Loop as loops
@@ -20,288 +23,259 @@ use Rattle.pts_tree.specs.declared.loops.Initial.TheVariants as initials
 use Rattle.pts_tree.specs.declared.loops.BodyStmt.{BodyStmt}
 use Rattle.pts_tree.specs.declared.loops.BodyStmt.TheOpen.{BodyStmt-F}
 use Rattle.pts_tree.specs.declared.loops.BodyStmt.TheFolds.{fold-BodyStmt}
-use Rattle.pts_tree.specs.declared.block.TaskStmt.{TaskStmt}
-use Rattle.pts_tree.specs.declared.block.TaskStmt.TheFolds.{fold-TaskStmt}
 use Rattle.pts_tree.specs.declared.script.Item.{Item}
-use Rattle.pts_rules.specs.Parts.{Name, Simple, Throw, Assign, Call, Loop, simple_step, statements}
-use Rattle.pts_rules.specs.Known.{Scope, array_number, number, natural}
-use Rattle.pts_rules.specs.Counts.{positions, step_of}
-use Rattle.pts_rules.specs.Indices.{affine_of, line_of, elements}
+use Rattle.pts_rules.specs.Parts.{Name, Simple, Throw, Assign, Call, Loop, statements}
+use Rattle.pts_rules.specs.Known.{Scope, kind_of_array, view_of}
+use Rattle.pts_rules.specs.Kinds.{let_kind, typing}
+use Rattle.pts_rules.specs.Mistyped.{body_scope}
+use Rattle.pts_rules.specs.Indices.{affine_of, line_of}
 use Rattle.pts_points.specs.declared.point.PointForm.{PointForm}
 use Rattle.pts_points.specs.declared.point.PointForm.TheVariants.{Read, Write, Update, LiveOut, Into, Plain}
 use Rattle.pts_points.specs.declared.point.PointInfo.{PointInfo}
 use Rattle.pts_points.specs.declared.point.CallInfo.{CallInfo}
-use Rattle.pts_points.specs.declared.course.Course.{Course}
-use Rattle.pts_points.specs.declared.walk.Site.{Site}
-use Rattle.pts_points.specs.declared.walk.Walk.{Walk}
+use Rattle.pts_points.specs.declared.space.IterationSpace.{IterationSpace}
+use Rattle.pts_points.specs.Lines as lines
+use Rattle.pts_points.specs.Lines.{no_line, line_of_range, line_of_cell, space_of, no_loop}
+use Rattle.pts_points.specs.Pieces.{Context, Computation, Index, Along, Computed, Deed, Reads, Assigns, Updates, Notes, Tests, Gives, Fills, LivesOut, Answers, Point, Piece, names_in, nothing, behind, sequence, sequence_of, served, alone, served_off, off_vector, binding, branching}
 
--- ---- numbers; those of a sound item are small enough to be kept as they are
-
--- in 32 bits
-abbrev pub small : ℕ → ℕ
-small n = min n (2 ^ 32 - 1)
-
--- in 64 bits with a sign
-abbrev pub clamp : ℤ → ℤ
-clamp z = if int_lt z least_i64 then least_i64 else if int_lt greatest_i64 z then greatest_i64 else z
-
--- the value of a sum
-abbrev pub amount : Scope → Sum → ℤ
-amount scope x = clamp (number scope x)
-
--- the number of an array
 abbrev pub array_at : Scope → Name → ℕ
-array_at scope name = elim (array_number scope name) [ None ↦ 0 | Some n ↦ small n ]
+array_at = lines.array_at
 
--- ---- lines
+-- ---- expressions
 
--- the line of a point that touches nothing
-abbrev pub no_line : Line
-no_line = record { c = pos 0; d = pos 0; n = 0 }
+-- the kind of an array's elements; of what is no array only a broken rule is asked
+abbrev pub kind_at : Scope → Name → Kind
+kind_at scope name = unwrap_or (kind_of_array scope name) kinds.U64
 
--- the cells of a range, one after the other
-abbrev pub range_line : ℤ → ℤ → Line
-range_line low high =
-    record {
-      c = if nat_le (natural (high -ℤ low)) 1 then pos 0 else pos 1;
-      d = low;
-      n = small (natural (high -ℤ low));
-    }
+abbrev pub view_kind : Name → Context → Kind
+view_kind name context = unwrap_or (view_of (names_in context) name) kinds.U64
 
-abbrev pub line_of_range : Scope → Range → Line
-line_of_range scope x = range_line (amount scope x.low) (amount scope x.high)
+-- an index that is computed has its expression's own kind, or `i64` where that is bare
+abbrev pub index_kind : Context → Expr → Kind
+index_kind context x = unwrap_or (typing true (names_in context) x).own kinds.I64
 
--- a single cell
-abbrev pub line_of_cell : Scope → Cell → Line
-line_of_cell scope x = record { c = pos 0; d = amount scope x.index; n = 1 }
+-- the cells of an index, whose Reads have the numbers from n on where it is computed
+abbrev pub index_of : Scope → IterationSpace → Expr → Context → ℕ → Index
+index_of scope space x context n =
+    elim (affine_of scope space.index x) [
+      | None ↦ Computed (record { kind = index_kind context x; first = n; expr = x })
+      | Some affine ↦ Along (line_of space.first space.step space.positions affine)
+    ]
 
--- how the index of a loop runs; it is read in the indices of the loop's body
-abbrev pub course_of : Scope → loops.Loop → Course
-course_of scope x =
-    let first : ℤ = amount scope x.low in
-    let step : ℤ = clamp (step_of scope x.step) in
-    record { index = Some x.index; first = first; step = step; positions = small (positions first (amount scope x.high) step) }
+-- the Reads of an expression in text order, those of an index before the Read that it is the index of
+abbrev pub reads_step : Scope → IterationSpace → Expr-F (Expr × Piece) (ChainPart × Piece) → Piece
+reads_step scope space (Expr-F.Call name xs) = sequence (map (λ x. x.1) xs)
+reads_step scope space (Expr-F.Element name x) = served x.1 (λ context n. Reads (array_at scope name) (index_of scope space x.0 context n))
+reads_step scope space (Expr-F.Convert to x) = x.1
+reads_step scope space (Expr-F.Paren x) = x.1
+reads_step scope space (Expr-F.Minus x) = x.1
+reads_step scope space (Expr-F.Not x) = x.1
+reads_step scope space (Expr-F.Chain x xs) = behind x.1 (sequence (map (λ y. y.1) xs))
+reads_step scope space (Expr-F.Compare op x y) = behind x.1 y.1
+reads_step scope space (Expr-F.All xs) = sequence (map (λ x. x.1) xs)
+reads_step scope space (Expr-F.Any xs) = sequence (map (λ x. x.1) xs)
+reads_step scope space (Expr-F.If x y z) = behind x.1 (behind y.1 z.1)
+reads_step scope space _ = nothing
 
--- an assignment of a block has no index, and is made once
-abbrev pub one_turn : Course
-one_turn = record { index = None; first = pos 0; step = pos 0; positions = 1 }
-
--- the exact numbers of a line, kept
-abbrev pub clamped : Line → Line
-clamped line = record { c = clamp line.c; d = clamp line.d; n = line.n }
-
-abbrev pub line_along : Course → ℤ → ℤ → Line
-line_along course factor offset = clamped (line_of course.first course.step course.positions (record { factor = factor; offset = offset }))
-
-abbrev pub slope : Course → ℤ → ℤ
-slope course factor = (line_along course factor (pos 0)).c
-
-abbrev pub start : Course → ℤ → ℤ → ℤ
-start course factor offset = (line_along course factor offset).d
-
--- the cells of an index along a course
-abbrev pub line_of_index : Scope → Course → Expr → Line
-line_of_index scope course x =
-    elim (affine_of scope course.index x) [ None ↦ no_line | Some index ↦ line_along course index.factor index.offset ]
-
--- ---- one point more
-
-abbrev pub put : PointForm → ℕ → Line → Site → Walk → Walk
-put form array line site walk =
-    record walk {
-      points =
-          walk.points
-          ++ record {
-            item = site.item;
-            number = small (length walk.points);
-            call = site.call;
-            form = form;
-            array = array;
-            line = line;
-            branches = site.branches;
-            off = site.off;
-          } ∷ [];
-    }
-
-abbrev pub put_plain : Site → Walk → Walk
-put_plain = put Plain 0 no_line
-
-abbrev pub put_range : Scope → PointForm → Range → Site → Walk → Walk
-put_range scope form x = put form (array_at scope x.array) (line_of_range scope x)
-
-abbrev pub put_cell : Scope → PointForm → Cell → Site → Walk → Walk
-put_cell scope form x = put form (array_at scope x.array) (line_of_cell scope x)
-
-abbrev pub put_place : Scope → Course → PointForm → Place → Site → Walk → Walk
-put_place scope course form at = put form (array_at scope at.array) (line_of_index scope course at.index)
-
--- where there is a part
-abbrev pub put_there : {A : Type 0} → (A → Site → Walk → Walk) → Option A → Site → Walk → Walk
-put_there f None site walk = walk
-put_there f (Some x) site walk = f x site walk
-
--- a read for each of these elements
-abbrev pub put_elements : Scope → Course → Site → Walk → List Place → Walk
-put_elements scope course site = fold (λ walk at. put_place scope course Read at site walk)
-
--- a read for each element that an expression reads, in text order
-unfoldable pub put_reads : Scope → Course → Expr → Site → Walk → Walk
-put_reads scope course x site walk = put_elements scope course site walk (elements x)
-
--- the reads of expressions, one after the other
-abbrev pub put_each : Scope → Course → List Expr → Site → Walk → Walk
-put_each scope course xs site walk = fold (λ before x. put_reads scope course x site before) walk xs
-
-abbrev pub put_operands : Scope → Course → List ChainPart → Site → Walk → Walk
-put_operands scope course xs site walk = fold (λ before x. put_reads scope course x.operand site before) walk xs
+-- the Reads of an expression
+unfoldable pub reads_of : Scope → IterationSpace → Expr → Piece
+reads_of scope space = para-Expr Piece Piece (reads_step scope space) (λ part. part.operand.1)
 
 -- ---- statements of a body
 
--- under a test
-abbrev pub under : ℕ → Bool → Site → Site
-under test taken site = record site { branches = site.branches ++ record { test = test; taken = taken } ∷ [] }
+-- the Reads of a place that is written and of the value for it
+abbrev pub both_reads : Scope → IterationSpace → Place → Expr → Piece
+both_reads scope space at x = behind (reads_of scope space at.index) (reads_of scope space x)
 
--- off the vector: the outermost `vec_off`, or `ordered` update, takes the next number
-abbrev pub off_site : Walk → Site → Site
-off_site walk site = record site { off = Some (elim site.off [ None ↦ walk.offs | Some n ↦ n ]) }
+-- the value for a place, whose Reads stand behind those of the place
+abbrev pub value_for : Scope → IterationSpace → Place → Expr → ℕ → Computation
+value_for scope space at x n = record { kind = kind_at scope at.array; first = n + (reads_of scope space at.index).size; expr = x }
 
-abbrev pub off_walk : Site → Walk → Walk
-off_walk site walk = elim site.off [ None ↦ record walk { offs = small (walk.offs + 1) } | Some n ↦ walk ]
+abbrev pub assign_deed : Scope → IterationSpace → Place → Expr → Context → ℕ → Deed
+assign_deed scope space at x context n =
+    Assigns (array_at scope at.array) (index_of scope space at.index context n) (value_for scope space at x n)
 
--- one statement behind the other
-abbrev pub sequence : List (Site → Walk → Walk) → Site → Walk → Walk
-sequence [] site walk = walk
-sequence (x ∷ xs) site walk = sequence xs site (x site walk)
+abbrev pub update_deed : Scope → IterationSpace → Place → ScalarOp → Expr → Context → ℕ → Deed
+update_deed scope space at op x context n =
+    Updates (array_at scope at.array) (index_of scope space at.index context n) op (value_for scope space at x n)
 
-abbrev pub else_sequence : Option (List (Site → Walk → Walk)) → Site → Walk → Walk
-else_sequence None site walk = walk
-else_sequence (Some xs) site walk = sequence xs site walk
+-- the kind of a `let`
+abbrev pub kind_of_let : Expr → Context → Kind
+kind_of_let x context = let_kind (names_in context) x
 
--- behind the reads of a condition: the test, and the branches under its number
-abbrev pub branching : List (Site → Walk → Walk) → Option (List (Site → Walk → Walk)) → Site → Walk → Walk
-branching xs ys site walk =
-    else_sequence ys (under (small (length walk.points)) false site)
-    (sequence xs (under (small (length walk.points)) true site) (put_plain site walk))
+abbrev pub stmt_step : Scope → IterationSpace → BodyStmt-F Piece → Piece
+stmt_step scope space (BodyStmt-F.Assign at x) = served (both_reads scope space at x) (assign_deed scope space at x)
+stmt_step scope space (BodyStmt-F.Let name x) =
+    binding name (kind_of_let x) (reads_of scope space x) (λ context n. Notes (record { kind = kind_of_let x context; first = n; expr = x }))
+stmt_step scope space (BodyStmt-F.Combine name x) =
+    served (reads_of scope space x) (λ context n. Gives name (record { kind = view_kind name context; first = n; expr = x }))
+stmt_step scope space (BodyStmt-F.If x xs ys) =
+    branching (reads_of scope space x) (λ context n. Tests (record { kind = kinds.Bool; first = n; expr = x })) (sequence xs) (sequence_of ys)
+stmt_step scope space (BodyStmt-F.VecOff xs) = off_vector (sequence xs)
+stmt_step scope space (BodyStmt-F.Ordered at op x) = served_off (both_reads scope space at x) (update_deed scope space at op x)
 
--- an update off the vector; its reads have no number from it
-abbrev pub put_ordered : Scope → Course → Place → Expr → Site → Walk → Walk
-put_ordered scope course at x site walk = put_place scope course Update at (off_site walk site) (off_walk site (put_reads scope course x site walk))
+-- a statement of a body
+unfoldable pub stmt_piece : Scope → IterationSpace → BodyStmt → Piece
+stmt_piece scope space = fold-BodyStmt Piece (stmt_step scope space)
 
-abbrev pub stmt_step : Scope → Course → BodyStmt-F (Site → Walk → Walk) → Site → Walk → Walk
-stmt_step scope course (BodyStmt-F.Assign at x) site walk = put_place scope course Write at site (put_reads scope course x site walk)
-stmt_step scope course (BodyStmt-F.Let name x) site walk = put_plain site (put_reads scope course x site walk)
-stmt_step scope course (BodyStmt-F.Combine name x) site walk = put_plain site (put_reads scope course x site walk)
-stmt_step scope course (BodyStmt-F.If x xs ys) site walk = branching xs ys site (put_reads scope course x site walk)
-stmt_step scope course (BodyStmt-F.VecOff xs) site walk = sequence xs (off_site walk site) (off_walk site walk)
-stmt_step scope course (BodyStmt-F.Ordered at op x) site walk = put_ordered scope course at x site walk
+abbrev pub body_piece : Scope → IterationSpace → List BodyStmt → Piece
+body_piece scope space xs = sequence (map (stmt_piece scope space) xs)
 
--- the points of a statement of a body, behind those before it
-unfoldable pub put_stmt : Scope → Course → BodyStmt → Site → Walk → Walk
-put_stmt scope course = fold-BodyStmt (Site → Walk → Walk) (stmt_step scope course)
-
-abbrev pub put_body : Scope → Course → List BodyStmt → Site → Walk → Walk
-put_body scope course xs site walk = fold (λ before x. put_stmt scope course x site before) walk xs
-
--- ---- calls and loops
-
-abbrev pub put_initial : Scope → Initial → Site → Walk → Walk
-put_initial scope (initials.Val x) site walk = walk
-put_initial scope (initials.Cell x) site walk = put_cell scope LiveOut x site walk
+-- ---- loops and calls
 
 -- the cell of a clause
-abbrev pub put_clause : Scope → Clause → Site → Walk → Walk
-put_clause scope (clauses.Reduce x) site walk = put_cell scope LiveOut x.cell site walk
-put_clause scope (clauses.Induct x) site walk = put_initial scope x.initial site walk
+abbrev pub live_out : Scope → Cell → Piece
+live_out scope x = alone (LivesOut (array_at scope x.array) (line_of_cell scope x))
 
-abbrev pub put_clauses : Scope → List Clause → Site → Walk → Walk
-put_clauses scope xs site walk = fold (λ before x. put_clause scope x site before) walk xs
+abbrev pub initial_piece : Scope → Initial → Piece
+initial_piece scope (initials.Val x) = nothing
+initial_piece scope (initials.Cell x) = live_out scope x
 
-abbrev pub put_loop : Scope → loops.Loop → Site → Walk → Walk
-put_loop scope x site walk = put_body scope (course_of scope x) x.body site (put_clauses scope x.clauses site walk)
+abbrev pub clause_piece : Scope → Clause → Piece
+clause_piece scope (clauses.Reduce x) = live_out scope x.cell
+clause_piece scope (clauses.Induct x) = initial_piece scope x.initial
+
+-- the cells of the clauses, and the body
+abbrev pub loop_piece : Scope → loops.Loop → Piece
+loop_piece scope x = behind (sequence (map (clause_piece scope) x.clauses)) (body_piece scope (space_of scope x) x.body)
+
+abbrev pub source_piece : Scope → Range → Piece
+source_piece scope x = alone (Reads (array_at scope x.array) (Along (line_of_range scope x)))
+
+abbrev pub target_piece : Scope → Range → Piece
+target_piece scope x = alone (Fills (array_at scope x.array) (line_of_range scope x))
+
+abbrev pub answer_piece : Scope → Cell → Piece
+answer_piece scope x = alone (Answers (array_at scope x.array) (line_of_cell scope x))
+
+-- where there is a part
+abbrev pub piece_of : {A : Type 0} → (A → Piece) → Option A → Piece
+piece_of f None = nothing
+piece_of f (Some x) = f x
 
 -- `for_each` writes the range that it reads
-abbrev pub put_own : Scope → CallForm → Range → Site → Walk → Walk
-put_own scope forms.ForEach x site walk = put_range scope Write x site walk
-put_own scope form x site walk = walk
+abbrev pub own_piece : Scope → CallForm → Range → Piece
+own_piece scope forms.ForEach x = target_piece scope x
+own_piece scope form x = nothing
 
--- the reads of the sources, the write of the target, and the cell of the answer
-abbrev pub put_sources : Scope → call.Call → Site → Walk → Walk
-put_sources scope x site walk = put_there (put_range scope Read) x.second site (put_range scope Read x.first site walk)
-
-abbrev pub put_targets : Scope → call.Call → Site → Walk → Walk
-put_targets scope x site walk =
-    put_there (put_cell scope Into) x.store site (put_there (put_range scope Write) x.target site (put_own scope x.form x.first site walk))
-
-abbrev pub put_call : Scope → call.Call → Site → Walk → Walk
-put_call scope x site walk = put_targets scope x site (put_sources scope x site walk)
+-- the sources, the target, and the cell of the answer
+abbrev pub call_piece : Scope → call.Call → Piece
+call_piece scope x =
+    behind (behind (source_piece scope x.first) (piece_of (source_piece scope) x.second))
+    (behind (own_piece scope x.form x.first) (behind (piece_of (target_piece scope) x.target) (piece_of (answer_piece scope) x.store)))
 
 -- ---- items
 
+-- a cell of a block that a value is assigned to
+abbrev pub assign_piece : Scope → Cell → Expr → Piece
+assign_piece scope at x =
+    served (reads_of scope no_loop x)
+    (λ context n. Assigns (array_at scope at.array) (Along (line_of_cell scope at)) (record { kind = kind_at scope at.array; first = n; expr = x }))
+
+abbrev pub statement_piece : Scope → Simple → Piece
+statement_piece scope (Throw n) = nothing
+statement_piece scope (Assign at x) = assign_piece scope at x
+statement_piece scope (Call x) = call_piece scope x
+statement_piece scope (Loop x) = loop_piece scope x
+
 -- a place in no branch, of this call or of none
-abbrev pub site_of : ℕ → Option ℕ → Site
-site_of item call = record { item = item; call = call; branches = []; off = None }
+abbrev pub outside : Option ℕ → Scope → Context
+outside call head = record { call = call; branches = []; off = None; head = head; lets = [] }
 
--- the number of the next call, where calls of earlier items stand before those of the walk
-abbrev pub next_call : ℕ → Walk → ℕ
-next_call earlier walk = small (earlier + small (length walk.calls))
+-- where a statement stands, with this number where it is a call
+abbrev pub context_of : Scope → ℕ → Simple → Context
+context_of scope c (Throw n) = outside None scope
+context_of scope c (Assign at x) = outside None scope
+context_of scope c (Call x) = outside (Some c) scope
+context_of scope c (Loop x) = outside (Some c) (body_scope scope x)
 
--- a call, whose points stand behind this many
-abbrev pub put_info : ℕ → Policy → ℕ → ℕ → Walk → Walk
-put_info item policy count before walk =
-    record walk {
-      calls =
-          walk.calls
-          ++ record {
-            item = item;
-            policy = policy;
-            positions = count;
-            first_point = small before;
-            points = small (length walk.points - before);
-          } ∷ [];
+abbrev pub calls_in : Simple → ℕ
+calls_in (Throw n) = 0
+calls_in (Assign at x) = 0
+calls_in (Call x) = 1
+calls_in (Loop x) = 1
+
+-- the points of statements that stand behind n points, m numbers of `off` and c calls
+abbrev pub points_from : Scope → ℕ → ℕ → ℕ → List Simple → List Point
+points_from scope n m c [] = []
+points_from scope n m c (x ∷ xs) =
+    (statement_piece scope x).points (context_of scope c x) n m
+    ++ points_from scope (n + (statement_piece scope x).size) (m + (statement_piece scope x).offs) (c + calls_in x) xs
+
+-- the points of an item before which this many calls stand
+abbrev pub item_points : Scope → ℕ → Item → List Point
+item_points scope earlier x = points_from scope 0 0 earlier (statements x)
+
+-- a call of so many positions, behind n points of the item
+abbrev pub call_info : ℕ → Policy → ℕ → ℕ → ℕ → List CallInfo
+call_info item policy positions n size =
+    record { item = item; policy = policy; positions = positions; first_point = n; points = size } ∷ []
+
+abbrev pub call_at : Scope → ℕ → ℕ → Simple → List CallInfo
+call_at scope item n (Throw code) = []
+call_at scope item n (Assign at x) = []
+call_at scope item n (Call x) = call_info item x.policy (line_of_range scope x.first).n n (call_piece scope x).size
+call_at scope item n (Loop x) = call_info item x.policy (space_of scope x).positions n (loop_piece scope x).size
+
+-- the calls and loops among statements that stand behind n points
+abbrev pub calls_from : Scope → ℕ → ℕ → List Simple → List CallInfo
+calls_from scope item n [] = []
+calls_from scope item n (x ∷ xs) = call_at scope item n x ++ calls_from scope item (n + (statement_piece scope x).size) xs
+
+-- ---- what lists show
+
+abbrev pub form_of : Deed → PointForm
+form_of (Reads array index) = Read
+form_of (Assigns array index x) = Write
+form_of (Updates array index op x) = Update
+form_of (Notes x) = Plain
+form_of (Tests x) = Plain
+form_of (Gives view x) = Plain
+form_of (Fills array line) = Write
+form_of (LivesOut array line) = LiveOut
+form_of (Answers array line) = Into
+
+abbrev pub array_of : Deed → ℕ
+array_of (Reads array index) = array
+array_of (Assigns array index x) = array
+array_of (Updates array index op x) = array
+array_of (Fills array line) = array
+array_of (LivesOut array line) = array
+array_of (Answers array line) = array
+array_of _ = 0
+
+-- an index that is no line is shown without cells
+abbrev pub line_at : Index → Line
+line_at (Along line) = line
+line_at (Computed x) = no_line
+
+abbrev pub line_of_deed : Deed → Line
+line_of_deed (Reads array index) = line_at index
+line_of_deed (Assigns array index x) = line_at index
+line_of_deed (Updates array index op x) = line_at index
+line_of_deed (Fills array line) = line
+line_of_deed (LivesOut array line) = line
+line_of_deed (Answers array line) = line
+line_of_deed _ = no_line
+
+-- a point of an item of this number
+abbrev pub info : ℕ → Point → PointInfo
+info item x =
+    record {
+      item = item;
+      number = x.number;
+      call = x.context.call;
+      form = form_of x.deed;
+      array = array_of x.deed;
+      line = line_of_deed x.deed;
+      branches = x.context.branches;
+      off = x.context.off;
     }
 
-abbrev pub assign_walk : Scope → ℕ → Cell → Expr → Walk → Walk
-assign_walk scope item at x walk = put_cell scope Write at (site_of item None) (put_reads scope one_turn x (site_of item None) walk)
-
-abbrev pub call_walk : Scope → ℕ → ℕ → call.Call → Walk → Walk
-call_walk scope item earlier x walk =
-    put_info item x.policy (line_of_range scope x.first).n (length walk.points) (put_call scope x (site_of item (Some (next_call earlier walk))) walk)
-
-abbrev pub loop_walk : Scope → ℕ → ℕ → loops.Loop → Walk → Walk
-loop_walk scope item earlier x walk =
-    put_info item x.policy (course_of scope x).positions (length walk.points) (put_loop scope x (site_of item (Some (next_call earlier walk))) walk)
-
-abbrev pub put_statement : Scope → ℕ → ℕ → Walk → Simple → Walk
-put_statement scope item earlier walk (Throw n) = walk
-put_statement scope item earlier walk (Assign at x) = assign_walk scope item at x walk
-put_statement scope item earlier walk (Call x) = call_walk scope item earlier x walk
-put_statement scope item earlier walk (Loop x) = loop_walk scope item earlier x walk
-
-abbrev pub put_statements : Scope → ℕ → ℕ → Walk → List Simple → Walk
-put_statements scope item earlier = fold (put_statement scope item earlier)
-
--- the statements of one statement of a block
-unfoldable pub task_statements : TaskStmt → List Simple
-task_statements = fold-TaskStmt (List Simple) (List Simple) simple_step (λ x. flat_map (λ y. y) x.body)
-
--- the points and calls of a statement of a block, behind those before it
-unfoldable pub put_task : Scope → ℕ → ℕ → TaskStmt → Walk → Walk
-put_task scope item earlier x walk = put_statements scope item earlier walk (task_statements x)
-
-abbrev pub put_tasks : Scope → ℕ → ℕ → List TaskStmt → Walk → Walk
-put_tasks scope item earlier xs walk = fold (λ before x. put_task scope item earlier x before) walk xs
-
-abbrev pub no_walk : Walk
-no_walk = record { points = []; calls = []; offs = 0 }
-
--- the points and calls of an item of this number, before which this many calls stand
-abbrev pub walk_of : Scope → ℕ → ℕ → Item → Walk
-walk_of scope item earlier x = put_statements scope item earlier no_walk (statements x)
-
--- the points of an item
+-- the points of an item of this number, before which this many calls stand
 abbrev pub points_of : Scope → ℕ → ℕ → Item → List PointInfo
-points_of scope item earlier x = (walk_of scope item earlier x).points
+points_of scope item earlier x = map (info item) (item_points scope earlier x)
 
 -- the calls and loops of an item
 abbrev pub calls_of : Scope → ℕ → ℕ → Item → List CallInfo
-calls_of scope item earlier x = (walk_of scope item earlier x).calls
+calls_of scope item earlier x = calls_from scope item 0 (statements x)

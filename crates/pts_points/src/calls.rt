@@ -1,175 +1,168 @@
-//! Calls and loops.
+//! The points of calls, and of the clauses and bodies of loops.
 
-ghost use Rattle.std.specs.Prelude.{◌≡◌, IfOk, OnOk};
-ghost use Rattle.pts_points.specs.Points as spec;
-ghost use Rattle.pts_points.specs.declared.point.PointForm.TheVariants.{Into};
+ghost use Rattle.std.specs.Prelude.{◌≡◌, map, OnOk};
+ghost use Rattle.pts_points.specs.Building as spec;
+ghost use Rattle.pts_points.specs.Lines.{space_of};
+ghost use Rattle.pts_points.specs.Pieces.{behind, sequence};
+ghost use Rattle.pts_points.specs.Points as points;
 
-use crate::course::course_of;
+use crate::builder::Builder;
+use crate::lines::{kept_array, line_of_cell, line_of_range};
 use crate::point::PointForm;
-use crate::statements::put_body;
-use crate::walk::{Site, Walk, put_cell, put_range};
 use pts_rules::Scope;
 use pts_tree::{Call, CallForm, Cell, Clause, Initial, Loop, Range};
 use std::alloc::{AllocError, Global};
 
-fn put_optional_range(
-    alloc: Global,
-    scope: &Scope,
-    form: PointForm,
-    range: &Option<Range>,
-    site: &Site,
-    walk: &mut Walk,
-) -> Result<(), AllocError>
-    ensures { OnOk result (walk.new ≡ spec.put_there (spec.put_range scope.now form) range.now site.now walk.old) }
-{
-    match range {
-        Some(range) => put_range(alloc, scope, form, range, site, walk),
-        None => Ok(()),
+impl Builder {
+    fn push_range(
+        &mut self,
+        alloc: Global,
+        scope: &Scope,
+        form: PointForm,
+        range: &Range,
+    ) -> Result<(), AllocError>
+        ensures { OnOk result (self.new ≡ spec.pushed_range scope.now self.old form range.now) }
+    {
+        let array = kept_array(scope, &range.array);
+        self.push(alloc, form, array, line_of_range(scope, range))
     }
-}
 
-fn put_store(
-    alloc: Global,
-    scope: &Scope,
-    store: &Option<Cell>,
-    site: &Site,
-    walk: &mut Walk,
-) -> Result<(), AllocError>
-    ensures { OnOk result (walk.new ≡ spec.put_there (spec.put_cell scope.now Into) store.now site.now walk.old) }
-{
-    match store {
-        Some(cell) => put_cell(alloc, scope, PointForm::Into, cell, site, walk),
-        None => Ok(()),
+    /// A point at a single cell.
+    pub fn push_cell(
+        &mut self,
+        alloc: Global,
+        scope: &Scope,
+        form: PointForm,
+        cell: &Cell,
+    ) -> Result<(), AllocError>
+        ensures { OnOk result (self.new ≡ spec.pushed_cell scope.now self.old form cell.now) }
+    {
+        let array = kept_array(scope, &cell.array);
+        self.push(alloc, form, array, line_of_cell(scope, cell))
     }
-}
 
-// `for_each` writes the range that it reads.
-fn put_own(
-    alloc: Global,
-    scope: &Scope,
-    form: CallForm,
-    range: &Range,
-    site: &Site,
-    walk: &mut Walk,
-) -> Result<(), AllocError>
-    ensures { OnOk result (walk.new ≡ spec.put_own scope.now form range.now site.now walk.old) }
-{
-    match form {
-        CallForm::ForEach => put_range(alloc, scope, PointForm::Write, range, site, walk),
-        CallForm::Transform
-        | CallForm::FindIf
-        | CallForm::CountIf
-        | CallForm::Reduce
-        | CallForm::TransformReduce
-        | CallForm::InclusiveScan
-        | CallForm::ExclusiveScan
-        | CallForm::TransformInclusiveScan
-        | CallForm::TransformExclusiveScan => Ok(()),
+    fn source(&mut self, alloc: Global, scope: &Scope, range: &Range) -> Result<(), AllocError>
+        ensures { OnOk result (spec.Adds self.old self.new (points.source_piece scope.now range.now)) }
+    {
+        self.push_range(alloc, scope, PointForm::Read, range)?;
+        Ok(())
     }
-}
 
-fn put_sources(
-    alloc: Global,
-    scope: &Scope,
-    call: &Call,
-    site: &Site,
-    walk: &mut Walk,
-) -> Result<(), AllocError>
-    ensures { OnOk result (walk.new ≡ spec.put_sources scope.now call.now site.now walk.old) }
-{
-    put_range(alloc, scope, PointForm::Read, &call.first, site, walk)?;
-    put_optional_range(alloc, scope, PointForm::Read, &call.second, site, walk)
-}
-
-fn put_targets(
-    alloc: Global,
-    scope: &Scope,
-    call: &Call,
-    site: &Site,
-    walk: &mut Walk,
-) -> Result<(), AllocError>
-    ensures { OnOk result (walk.new ≡ spec.put_targets scope.now call.now site.now walk.old) }
-{
-    put_own(alloc, scope, call.form, &call.first, site, walk)?;
-    put_optional_range(alloc, scope, PointForm::Write, &call.target, site, walk)?;
-    put_store(alloc, scope, &call.store, site, walk)
-}
-
-/// The points of a call.
-pub fn put_call(
-    alloc: Global,
-    scope: &Scope,
-    call: &Call,
-    site: &Site,
-    walk: &mut Walk,
-) -> Result<(), AllocError>
-    ensures { OnOk result (walk.new ≡ spec.put_call scope.now call.now site.now walk.old) }
-{
-    put_sources(alloc, scope, call, site, walk)?;
-    put_targets(alloc, scope, call, site, walk)
-}
-
-fn put_initial(
-    alloc: Global,
-    scope: &Scope,
-    initial: &Initial,
-    site: &Site,
-    walk: &mut Walk,
-) -> Result<(), AllocError>
-    ensures { OnOk result (walk.new ≡ spec.put_initial scope.now initial.now site.now walk.old) }
-{
-    match initial {
-        Initial::Val(_) => Ok(()),
-        Initial::Cell(cell) => put_cell(alloc, scope, PointForm::LiveOut, cell, site, walk),
+    fn target(&mut self, alloc: Global, scope: &Scope, range: &Range) -> Result<(), AllocError>
+        ensures { OnOk result (spec.Adds self.old self.new (points.target_piece scope.now range.now)) }
+    {
+        self.push_range(alloc, scope, PointForm::Write, range)?;
+        Ok(())
     }
-}
 
-fn put_clause(
-    alloc: Global,
-    scope: &Scope,
-    clause: &Clause,
-    site: &Site,
-    walk: &mut Walk,
-) -> Result<(), AllocError>
-    ensures { OnOk result (walk.new ≡ spec.put_clause scope.now clause.now site.now walk.old) }
-{
-    match clause {
-        Clause::Reduce(clause) => {
-            put_cell(alloc, scope, PointForm::LiveOut, &clause.cell, site, walk)
+    fn answer(&mut self, alloc: Global, scope: &Scope, cell: &Cell) -> Result<(), AllocError>
+        ensures { OnOk result (spec.Adds self.old self.new (points.answer_piece scope.now cell.now)) }
+    {
+        self.push_cell(alloc, scope, PointForm::Into, cell)?;
+        Ok(())
+    }
+
+    fn live_out(&mut self, alloc: Global, scope: &Scope, cell: &Cell) -> Result<(), AllocError>
+        ensures { OnOk result (spec.Adds self.old self.new (points.live_out scope.now cell.now)) }
+    {
+        self.push_cell(alloc, scope, PointForm::LiveOut, cell)?;
+        Ok(())
+    }
+
+    fn sources(&mut self, alloc: Global, scope: &Scope, call: &Call) -> Result<(), AllocError>
+        ensures { OnOk result (spec.Adds self.old self.new (behind (points.source_piece scope.now call.now.first) (points.piece_of (points.source_piece scope.now) call.now.second))) }
+    {
+        self.source(alloc, scope, &call.first)?;
+        if let Some(second) = &call.second {
+            self.source(alloc, scope, second)?;
         }
-        Clause::Induct(clause) => put_initial(alloc, scope, &clause.initial, site, walk),
+        Ok(())
     }
-}
 
-#[tactic(auto, using(crate::proofs::Turns::turns))]
-fn put_clauses(
-    alloc: Global,
-    scope: &Scope,
-    clauses: &[Clause],
-    site: &Site,
-    walk: &mut Walk,
-) -> Result<(), AllocError>
-    ensures { OnOk result (walk.new ≡ spec.put_clauses scope.now clauses.now site.now walk.old) }
-{
-    for clause in clauses {
-        put_clause(alloc, scope, clause, site, walk)?;
+    // `for_each` writes the range that it reads.
+    fn own(&mut self, alloc: Global, scope: &Scope, call: &Call) -> Result<(), AllocError>
+        ensures { OnOk result (spec.Adds self.old self.new (points.own_piece scope.now call.now.form call.now.first)) }
+    {
+        match call.form {
+            CallForm::ForEach => self.target(alloc, scope, &call.first),
+            CallForm::Transform
+            | CallForm::FindIf
+            | CallForm::CountIf
+            | CallForm::Reduce
+            | CallForm::TransformReduce
+            | CallForm::InclusiveScan
+            | CallForm::ExclusiveScan
+            | CallForm::TransformInclusiveScan
+            | CallForm::TransformExclusiveScan => Ok(()),
+        }
     }
-    Ok(())
-}
 
-/// The points of a loop, and the number of its positions.
-pub fn put_loop(
-    alloc: Global,
-    scope: &Scope,
-    x: &Loop,
-    site: &Site,
-    walk: &mut Walk,
-) -> Result<u32, AllocError>
-    ensures positions { IfOk result (λ n. n ≡ (spec.course_of scope.now x.now).positions) }
-    ensures points { OnOk result (walk.new ≡ spec.put_loop scope.now x.now site.now walk.old) }
-{
-    let course = course_of(alloc, scope, x)?;
-    put_clauses(alloc, scope, x.clauses.as_slice(), site, walk)?;
-    put_body(alloc, scope, &course, x.body.as_slice(), site, walk)?;
-    Ok(course.positions)
+    fn written(&mut self, alloc: Global, scope: &Scope, call: &Call) -> Result<(), AllocError>
+        ensures { OnOk result (spec.Adds self.old self.new (points.piece_of (points.target_piece scope.now) call.now.target)) }
+    {
+        match &call.target {
+            Some(target) => self.target(alloc, scope, target),
+            None => Ok(()),
+        }
+    }
+
+    // The range that is written, and the cell of the answer.
+    fn results(&mut self, alloc: Global, scope: &Scope, call: &Call) -> Result<(), AllocError>
+        ensures { OnOk result (spec.Adds self.old self.new (behind (points.piece_of (points.target_piece scope.now) call.now.target) (points.piece_of (points.answer_piece scope.now) call.now.store))) }
+    {
+        self.written(alloc, scope, call)?;
+        if let Some(store) = &call.store {
+            self.answer(alloc, scope, store)?;
+        }
+        Ok(())
+    }
+
+    /// The points of a call.
+    pub fn call_points(
+        &mut self,
+        alloc: Global,
+        scope: &Scope,
+        call: &Call,
+    ) -> Result<(), AllocError>
+        ensures { OnOk result (spec.Adds self.old self.new (points.call_piece scope.now call.now)) }
+    {
+        self.sources(alloc, scope, call)?;
+        self.own(alloc, scope, call)?;
+        self.results(alloc, scope, call)
+    }
+
+    fn clause(&mut self, alloc: Global, scope: &Scope, clause: &Clause) -> Result<(), AllocError>
+        ensures { OnOk result (spec.Adds self.old self.new (points.clause_piece scope.now clause.now)) }
+    {
+        match clause {
+            Clause::Reduce(clause) => self.live_out(alloc, scope, &clause.cell),
+            Clause::Induct(clause) => match &clause.initial {
+                Initial::Cell(cell) => self.live_out(alloc, scope, cell),
+                Initial::Val(_) => Ok(()),
+            },
+        }
+    }
+
+    fn clauses(
+        &mut self,
+        alloc: Global,
+        scope: &Scope,
+        clauses: &[Clause],
+    ) -> Result<(), AllocError>
+        ensures { OnOk result (spec.Adds self.old self.new (sequence (map (points.clause_piece scope.now) clauses.now))) }
+    {
+        for clause in clauses {
+            self.clause(alloc, scope, clause)?;
+        }
+        Ok(())
+    }
+
+    /// The points of a loop whose index runs as it does here.
+    pub fn loop_points(&mut self, alloc: Global, scope: &Scope, x: &Loop) -> Result<(), AllocError>
+        requires { self.old.space ≡ space_of scope.now x.now }
+        ensures { OnOk result (spec.Adds self.old self.new (points.loop_piece scope.now x.now)) }
+    {
+        self.clauses(alloc, scope, x.clauses.as_slice())?;
+        self.body(alloc, scope, x.body.as_slice())
+    }
 }

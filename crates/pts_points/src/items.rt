@@ -1,191 +1,178 @@
 //! Items: their calls and loops, and the statements of their blocks.
 
-ghost use Rattle.std.specs.Prelude.{◌≡◌, ◌++◌, Some, IfOk, OnOk};
-ghost use Rattle.pts_points.specs.Points as spec;
+ghost use Rattle.std.specs.Prelude.{◌≡◌, ◌+◌, ◌<◌, ◌^◌, [], ◌∷◌, flat_map, length, All, IfOk, OnOk};
+ghost use Rattle.pts_points.specs.Building as spec;
+ghost use Rattle.pts_points.specs.Inside.{HasRoom, IsSound};
+ghost use Rattle.pts_points.specs.Points as points;
 ghost use Rattle.pts_rules.specs.Parts as parts;
 
-use crate::calls::{put_call, put_loop};
-use crate::course::{line_of_range, one_turn};
+use crate::builder::Builder;
+use crate::lines::line_of_range;
+use crate::numbers::small;
 use crate::point::{CallInfo, PointForm, PointInfo};
-use crate::reads::put_reads;
-use crate::walk::{Walk, next_call, no_walk, put_cell, put_info, site_of};
+use crate::space::{no_loop, space_of};
 use pts_rules::Scope;
 use pts_tree::{Call, Cell, Expr, Item, Loop, TaskStmt};
-use pts_types::NoMemory;
+use pts_types::{NoMemory, Policy};
 use sqlite_items::Items;
 use std::alloc::{AllocError, Global};
 
-fn add_assign(
-    alloc: Global,
-    scope: &Scope,
-    item: u32,
-    cell: &Cell,
-    value: &Expr,
-    walk: &mut Walk,
-) -> Result<(), AllocError>
-    ensures { OnOk result (walk.new ≡ spec.assign_walk scope.now item cell.now value.now walk.old) }
-{
-    let site = site_of(alloc, item, None);
-    put_reads(alloc, scope, &one_turn(), value, &site, walk)?;
-    put_cell(alloc, scope, PointForm::Write, cell, &site, walk)
+/// The points and the calls of an item, each in text order.
+#[derive(Debug, Drop)]
+pub struct ItemPoints {
+    pub points: Items<PointInfo>,
+    pub calls: Items<CallInfo>,
 }
 
-fn add_call(
-    alloc: Global,
-    scope: &Scope,
-    item: u32,
-    earlier: u32,
-    call: &Call,
-    walk: &mut Walk,
-) -> Result<(), AllocError>
-    ensures { OnOk result (walk.new ≡ spec.call_walk scope.now item earlier call.now walk.old) }
-{
-    let before = walk.points.len();
-    let site = site_of(alloc, item, Some(next_call(earlier, walk)));
-    put_call(alloc, scope, call, &site, walk)?;
-    let positions = line_of_range(scope, &call.first).n;
-    put_info(item, call.policy, positions, before, walk)
-}
-
-fn add_loop(
-    alloc: Global,
-    scope: &Scope,
-    item: u32,
-    earlier: u32,
-    x: &Loop,
-    walk: &mut Walk,
-) -> Result<(), AllocError>
-    ensures { OnOk result (walk.new ≡ spec.loop_walk scope.now item earlier x.now walk.old) }
-{
-    let before = walk.points.len();
-    let site = site_of(alloc, item, Some(next_call(earlier, walk)));
-    let positions = put_loop(alloc, scope, x, &site, walk)?;
-    put_info(item, x.policy, positions, before, walk)
-}
-
-#[cycle(add_task)]
-#[tactic(auto, using(crate::proofs::Turns::turns))]
-fn add_tasks(
-    alloc: Global,
-    scope: &Scope,
-    item: u32,
-    earlier: u32,
-    stmts: &[TaskStmt],
-    walk: &mut Walk,
-) -> Result<(), AllocError>
-    ensures { OnOk result (walk.new ≡ spec.put_tasks scope.now item earlier stmts.now walk.old) }
-{
-    for stmt in stmts {
-        add_task(alloc, scope, item, earlier, stmt, walk)?;
+impl Builder {
+    // The number of the next call.
+    fn next_call(&self) -> Result<u32, AllocError>
+        ensures { IfOk result (λ n. n ≡ self.now.earlier + length self.now.calls) }
+    {
+        let number = u128::from(self.earlier) + self.calls.len() as u128;
+        if number > u128::from(u32::MAX) {
+            return Err(AllocError);
+        }
+        Ok(number as u32)
     }
-    Ok(())
-}
 
-#[cycle(add_task)]
-#[tactic(auto, using(crate::proofs::TaskForms::task_by_form))]
-fn add_task(
-    alloc: Global,
-    scope: &Scope,
-    item: u32,
-    earlier: u32,
-    stmt: &TaskStmt,
-    walk: &mut Walk,
-) -> Result<(), AllocError>
-    ensures { OnOk result (walk.new ≡ spec.put_task scope.now item earlier stmt.now walk.old) }
-{
-    match stmt {
-        TaskStmt::Run(body) => add_tasks(alloc, scope, item, earlier, body.as_slice(), walk),
-        TaskStmt::Wait | TaskStmt::Throw(_) => Ok(()),
-        TaskStmt::Assign(cell, value) => add_assign(alloc, scope, item, cell, value, walk),
-        TaskStmt::Call(call) => add_call(alloc, scope, item, earlier, call, walk),
-        TaskStmt::Loop(x) => add_loop(alloc, scope, item, earlier, x, walk),
-        TaskStmt::Block(block) => {
-            add_tasks(alloc, scope, item, earlier, block.body.as_slice(), walk)
+    // The end of a call of so many positions, whose points stand behind the first `before`.
+    fn end_call(&mut self, policy: Policy, positions: u32, before: usize) -> Result<(), AllocError>
+        ensures { OnOk result (self.new ≡ spec.ended self.old policy positions before) }
+    {
+        let count = self.points.len().saturating_sub(before);
+        self.calls.push(CallInfo {
+            item: self.item,
+            policy,
+            positions,
+            first_point: small(before as u128),
+            points: small(count as u128),
+        })?;
+        self.call = None;
+        self.space = no_loop();
+        Ok(())
+    }
+
+    fn add_assign(
+        &mut self,
+        alloc: Global,
+        scope: &Scope,
+        cell: &Cell,
+        value: &Expr,
+    ) -> Result<(), AllocError>
+        requires { spec.IsIdle self.old }
+        ensures { OnOk result (self.new ≡ spec.with_statements scope.now self.old (parts.Assign cell.now value.now ∷ [])) }
+    {
+        self.reads(alloc, scope, value)?;
+        self.push_cell(alloc, scope, PointForm::Write, cell)
+    }
+
+    fn add_call(&mut self, alloc: Global, scope: &Scope, call: &Call) -> Result<(), AllocError>
+        requires { spec.AreAddable scope.now self.old (parts.Call call.now ∷ []) }
+        ensures { OnOk result (self.new ≡ spec.with_statements scope.now self.old (parts.Call call.now ∷ [])) }
+    {
+        let before = self.points.len();
+        let number = self.next_call()?;
+        self.call = Some(number);
+        self.call_points(alloc, scope, call)?;
+        let positions = line_of_range(scope, &call.first).n;
+        self.end_call(call.policy, positions, before)
+    }
+
+    fn add_loop(&mut self, alloc: Global, scope: &Scope, x: &Loop) -> Result<(), AllocError>
+        requires { spec.AreAddable scope.now self.old (parts.Loop x.now ∷ []) }
+        ensures { OnOk result (self.new ≡ spec.with_statements scope.now self.old (parts.Loop x.now ∷ [])) }
+    {
+        let before = self.points.len();
+        let number = self.next_call()?;
+        self.call = Some(number);
+        self.space = space_of(alloc, scope, x)?;
+        let positions = small(self.space.positions);
+        self.loop_points(alloc, scope, x)?;
+        self.end_call(x.policy, positions, before)
+    }
+
+    #[cycle(tasks)]
+    fn add_tasks(
+        &mut self,
+        alloc: Global,
+        scope: &Scope,
+        stmts: &[TaskStmt],
+    ) -> Result<(), AllocError>
+        requires { spec.AreAddable scope.now self.old (flat_map spec.task_statements stmts.now) }
+        ensures { OnOk result (self.new ≡ spec.with_statements scope.now self.old (flat_map spec.task_statements stmts.now)) }
+    {
+        for stmt in stmts {
+            self.add_task(alloc, scope, stmt)?;
+        }
+        Ok(())
+    }
+
+    #[cycle(tasks)]
+    fn add_task(&mut self, alloc: Global, scope: &Scope, stmt: &TaskStmt) -> Result<(), AllocError>
+        requires { spec.AreAddable scope.now self.old (spec.task_statements stmt.now) }
+        ensures { OnOk result (self.new ≡ spec.with_statements scope.now self.old (spec.task_statements stmt.now)) }
+    {
+        match stmt {
+            TaskStmt::Run(body) => self.add_tasks(alloc, scope, body.as_slice()),
+            TaskStmt::Wait => Ok(()),
+            TaskStmt::Throw(_) => Ok(()),
+            TaskStmt::Assign(cell, value) => self.add_assign(alloc, scope, cell, value),
+            TaskStmt::Call(call) => self.add_call(alloc, scope, call),
+            TaskStmt::Loop(x) => self.add_loop(alloc, scope, x),
+            TaskStmt::Block(block) => self.add_tasks(alloc, scope, block.body.as_slice()),
+        }
+    }
+
+    fn add_item(&mut self, alloc: Global, scope: &Scope, item: &Item) -> Result<(), AllocError>
+        requires { spec.AreAddable scope.now self.old (parts.statements item.now) }
+        ensures { OnOk result (self.new ≡ spec.with_statements scope.now self.old (parts.statements item.now)) }
+    {
+        match item {
+            Item::Call(call) => self.add_call(alloc, scope, call),
+            Item::Loop(x) => self.add_loop(alloc, scope, x),
+            Item::Block(block) => self.add_tasks(alloc, scope, block.body.as_slice()),
+            Item::Const(_) => Ok(()),
+            Item::Array(_) => Ok(()),
+            Item::Function(_) => Ok(()),
+            Item::Print(_) => Ok(()),
         }
     }
 }
 
-#[tactic(auto, using(crate::proofs::TaskForms::item_by_form))]
-fn add_item(
+fn build_item(
     alloc: Global,
     scope: &Scope,
     number: u32,
     earlier: u32,
     item: &Item,
-    walk: &mut Walk,
-) -> Result<(), AllocError>
-    ensures { OnOk result (walk.new ≡ spec.put_statements scope.now number earlier walk.old (parts.statements item.now)) }
+) -> Result<ItemPoints, AllocError>
+    requires room { HasRoom scope.now }
+    requires sound { All (IsSound scope.now) (parts.statements item.now) }
+    requires few { length (points.item_points scope.now earlier item.now) < 2 ^ 32 }
+    ensures points { IfOk result (λ x. x.points ≡ points.points_of scope.now number earlier item.now) }
+    ensures calls { IfOk result (λ x. x.calls ≡ points.calls_of scope.now number earlier item.now) }
 {
-    match item {
-        Item::Call(call) => add_call(alloc, scope, number, earlier, call, walk),
-        Item::Loop(x) => add_loop(alloc, scope, number, earlier, x, walk),
-        Item::Block(block) => {
-            add_tasks(alloc, scope, number, earlier, block.body.as_slice(), walk)
-        }
-        Item::Const(_) | Item::Array(_) | Item::Function(_) | Item::Print(_) => Ok(()),
-    }
+    let mut builder = Builder::new(alloc, number, earlier);
+    builder.add_item(alloc, scope, item)?;
+    let Builder { points, calls, .. } = builder;
+    Ok(ItemPoints { points, calls })
 }
 
-fn walk_of(
+/// The points and the calls of a sound item, in text order. The item has this number, and `earlier` calls stand before its
+/// own. There is no room for calls, or for an `off`, whose number has more than 32 bits.
+pub fn item_points(
     alloc: Global,
     scope: &Scope,
     number: u32,
     earlier: u32,
     item: &Item,
-) -> Result<Walk, AllocError>
-    ensures { IfOk result (λ walk. walk ≡ spec.walk_of scope.now number earlier item.now) }
+) -> Result<ItemPoints, NoMemory>
+    requires room { HasRoom scope.now }
+    requires sound { All (IsSound scope.now) (parts.statements item.now) }
+    requires few { length (points.item_points scope.now earlier item.now) < 2 ^ 32 }
+    ensures points { IfOk result (λ x. x.points ≡ points.points_of scope.now number earlier item.now) }
+    ensures calls { IfOk result (λ x. x.calls ≡ points.calls_of scope.now number earlier item.now) }
 {
-    let mut walk = no_walk(alloc);
-    add_item(alloc, scope, number, earlier, item, &mut walk)?;
-    Ok(walk)
-}
-
-fn append_walk(
-    walk: Walk,
-    points: &mut Items<PointInfo>,
-    calls: &mut Items<CallInfo>,
-) -> Result<(), AllocError>
-    ensures points { OnOk result (points.new ≡ points.old ++ walk.points) }
-    ensures calls { OnOk result (calls.new ≡ calls.old ++ walk.calls) }
-{
-    let Walk {
-        points: more,
-        calls: more_calls,
-        ..
-    } = walk;
-    points.append(more)?;
-    calls.append(more_calls)
-}
-
-fn append_item(
-    alloc: Global,
-    scope: &Scope,
-    number: u32,
-    earlier: u32,
-    item: &Item,
-    points: &mut Items<PointInfo>,
-    calls: &mut Items<CallInfo>,
-) -> Result<(), AllocError>
-    ensures points { OnOk result (points.new ≡ points.old ++ spec.points_of scope.now number earlier item.now) }
-    ensures calls { OnOk result (calls.new ≡ calls.old ++ spec.calls_of scope.now number earlier item.now) }
-{
-    let walk = walk_of(alloc, scope, number, earlier, item)?;
-    append_walk(walk, points, calls)
-}
-
-/// Appends the points and the calls of an item, in text order. The item has this number, and `earlier` calls stand before
-/// those of the item. Numbers that no item within the limits of a script has are cut to the width of their field.
-pub fn add_points(
-    alloc: Global,
-    scope: &Scope,
-    number: u32,
-    earlier: u32,
-    item: &Item,
-    points: &mut Items<PointInfo>,
-    calls: &mut Items<CallInfo>,
-) -> Result<(), NoMemory>
-    ensures points { OnOk result (points.new ≡ points.old ++ spec.points_of scope.now number earlier item.now) }
-    ensures calls { OnOk result (calls.new ≡ calls.old ++ spec.calls_of scope.now number earlier item.now) }
-{
-    append_item(alloc, scope, number, earlier, item, points, calls).map_err(|_| NoMemory)
+    build_item(alloc, scope, number, earlier, item).map_err(|_| NoMemory)
 }

@@ -1,87 +1,91 @@
-//! The reads of expressions.
+//! The Reads of expressions.
 
-ghost use Rattle.std.specs.Prelude.{◌≡◌, OnOk};
-ghost use Rattle.pts_points.specs.Points as spec;
+ghost use Rattle.std.specs.Prelude.{map, OnOk};
+ghost use Rattle.pts_points.specs.Building as spec;
+ghost use Rattle.pts_points.specs.Pieces.{sequence};
+ghost use Rattle.pts_points.specs.Points.{reads_of};
 
-use crate::course::Course;
-use crate::walk::{Site, Walk, put_element};
+use crate::builder::Builder;
+use crate::lines::{kept_array, line_of_index};
+use crate::point::PointForm;
 use pts_rules::Scope;
-use pts_tree::{ChainPart, Expr};
+use pts_tree::{ChainPart, Expr, Name};
 use std::alloc::{AllocError, Global};
 
-#[cycle(put_reads)]
-#[tactic(auto, using(crate::proofs::Turns::turns))]
-fn put_each(
-    alloc: Global,
-    scope: &Scope,
-    course: &Course,
-    exprs: &[Expr],
-    site: &Site,
-    walk: &mut Walk,
-) -> Result<(), AllocError>
-    ensures { OnOk result (walk.new ≡ spec.put_each scope.now course.now exprs.now site.now walk.old) }
-{
-    for expr in exprs {
-        put_reads(alloc, scope, course, expr, site, walk)?;
+impl Builder {
+    #[cycle(reads)]
+    fn each(&mut self, alloc: Global, scope: &Scope, exprs: &[Expr]) -> Result<(), AllocError>
+        ensures { OnOk result (spec.Adds self.old self.new (sequence (map (reads_of scope.now self.old.space) exprs.now))) }
+    {
+        for expr in exprs {
+            self.reads(alloc, scope, expr)?;
+        }
+        Ok(())
     }
-    Ok(())
-}
 
-#[cycle(put_reads)]
-#[tactic(auto, using(crate::proofs::Turns::turns))]
-fn put_operands(
-    alloc: Global,
-    scope: &Scope,
-    course: &Course,
-    parts: &[ChainPart],
-    site: &Site,
-    walk: &mut Walk,
-) -> Result<(), AllocError>
-    ensures { OnOk result (walk.new ≡ spec.put_operands scope.now course.now parts.now site.now walk.old) }
-{
-    for part in parts {
-        put_reads(alloc, scope, course, &part.operand, site, walk)?;
+    #[cycle(reads)]
+    fn operands(
+        &mut self,
+        alloc: Global,
+        scope: &Scope,
+        parts: &[ChainPart],
+    ) -> Result<(), AllocError>
+        ensures { OnOk result (spec.Adds self.old self.new (sequence (map (λ x. reads_of scope.now self.old.space x.operand) parts.now))) }
+    {
+        for part in parts {
+            self.reads(alloc, scope, &part.operand)?;
+        }
+        Ok(())
     }
-    Ok(())
-}
 
-/// A read for each element that an expression reads, in text order.
-#[cycle(put_reads)]
-#[tactic(auto, using(crate::proofs::ReadForms::reads_by_form))]
-pub fn put_reads(
-    alloc: Global,
-    scope: &Scope,
-    course: &Course,
-    expr: &Expr,
-    site: &Site,
-    walk: &mut Walk,
-) -> Result<(), AllocError>
-    ensures { OnOk result (walk.new ≡ spec.put_reads scope.now course.now expr.now site.now walk.old) }
-{
-    match expr {
-        Expr::Number(_) | Expr::True | Expr::False | Expr::Name(_) | Expr::Throw(_) => Ok(()),
-        Expr::Call(_, exprs) | Expr::All(exprs) | Expr::Any(exprs) => {
-            put_each(alloc, scope, course, exprs.as_slice(), site, walk)
-        }
-        Expr::Element(name, index) => {
-            put_element(alloc, scope, course, name, index.get(), site, walk)?;
-            put_reads(alloc, scope, course, index.get(), site, walk)
-        }
-        Expr::Convert(_, expr) | Expr::Paren(expr) | Expr::Minus(expr) | Expr::Not(expr) => {
-            put_reads(alloc, scope, course, expr.get(), site, walk)
-        }
-        Expr::Chain(first, parts) => {
-            put_reads(alloc, scope, course, first.get(), site, walk)?;
-            put_operands(alloc, scope, course, parts.as_slice(), site, walk)
-        }
-        Expr::Compare(_, left, right) => {
-            put_reads(alloc, scope, course, left.get(), site, walk)?;
-            put_reads(alloc, scope, course, right.get(), site, walk)
-        }
-        Expr::If(test, then, other) => {
-            put_reads(alloc, scope, course, test.get(), site, walk)?;
-            put_reads(alloc, scope, course, then.get(), site, walk)?;
-            put_reads(alloc, scope, course, other.get(), site, walk)
+    // A Read of an element, behind those of its index.
+    #[cycle(reads)]
+    fn element(
+        &mut self,
+        alloc: Global,
+        scope: &Scope,
+        array: &Name,
+        index: &Expr,
+    ) -> Result<(), AllocError>
+        ensures { OnOk result (spec.Adds self.old self.new (spec.element_piece scope.now self.old.space array.now index.now)) }
+    {
+        self.reads(alloc, scope, index)?;
+        let line = line_of_index(scope, &self.space, index);
+        self.push(alloc, PointForm::Read, kept_array(scope, array), line)
+    }
+
+    /// The Reads of an expression, in text order; those of an index stand before the Read that it is the index of.
+    #[cycle(reads)]
+    pub fn reads(&mut self, alloc: Global, scope: &Scope, expr: &Expr) -> Result<(), AllocError>
+        ensures { OnOk result (spec.Adds self.old self.new (reads_of scope.now self.old.space expr.now)) }
+    {
+        match expr {
+            Expr::Number(_) => Ok(()),
+            Expr::True => Ok(()),
+            Expr::False => Ok(()),
+            Expr::Name(_) => Ok(()),
+            Expr::Throw(_) => Ok(()),
+            Expr::Call(_, exprs) => self.each(alloc, scope, exprs.as_slice()),
+            Expr::All(exprs) => self.each(alloc, scope, exprs.as_slice()),
+            Expr::Any(exprs) => self.each(alloc, scope, exprs.as_slice()),
+            Expr::Element(array, index) => self.element(alloc, scope, array, index.get()),
+            Expr::Convert(_, expr) => self.reads(alloc, scope, expr.get()),
+            Expr::Paren(expr) => self.reads(alloc, scope, expr.get()),
+            Expr::Minus(expr) => self.reads(alloc, scope, expr.get()),
+            Expr::Not(expr) => self.reads(alloc, scope, expr.get()),
+            Expr::Chain(first, parts) => {
+                self.reads(alloc, scope, first.get())?;
+                self.operands(alloc, scope, parts.as_slice())
+            }
+            Expr::Compare(_, left, right) => {
+                self.reads(alloc, scope, left.get())?;
+                self.reads(alloc, scope, right.get())
+            }
+            Expr::If(test, then, other) => {
+                self.reads(alloc, scope, test.get())?;
+                self.reads(alloc, scope, then.get())?;
+                self.reads(alloc, scope, other.get())
+            }
         }
     }
 }
