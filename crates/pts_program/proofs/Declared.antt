@@ -1,5 +1,5 @@
 -- One item more: what it leaves to those behind it.
-use Rattle.std.proofs.Common.{◌≡◌, ℕ, ◌+◌, ◌≤◌, ◌^◌, false, List, [], ◌∷◌, ◌++◌, length, map, refl, sym, ap, ◌∙◌, arith}
+use Rattle.std.proofs.Common.{◌≡◌, ℕ, ◌+◌, ◌≤◌, ◌^◌, Bool, true, false, IsTrue, List, [], ◌∷◌, ◌++◌, length, map, refl, sym, ap, ◌∙◌, arith}
 use Rattle.std.specs.Prelude.{nat_lt, cond}
 use Rattle.std.proofs.lemmas.Bool.{or_parts}
 use Rattle.std.proofs.lemmas.Bool.Decides.{nat_tests}
@@ -9,6 +9,8 @@ use Rattle.pts_tree.specs.declared.script.Item.{Item}
 use Rattle.pts_tree.specs.declared.script.Item.TheVariants as items
 use Rattle.pts_tree.specs.declared.script.Param.{Param}
 use Rattle.pts_code.specs.declared.function.FunctionInfo.{FunctionInfo}
+use Rattle.pts_points.specs.Inside.{HasRoom}
+use Rattle.pts_rules.specs.Indices.{is_out_at}
 use Rattle.pts_rules.specs.Counts.{size_of}
 use Rattle.pts_rules.specs.Known.{Entry, Scope, number}
 use Rattle.pts_rules.specs.Limits.{cells, cells_of, is_large, is_statement, is_too_many}
@@ -16,7 +18,12 @@ use Rattle.pts_rules.specs.declared.meaning.Meaning.TheVariants.{Constant, Array
 use Rattle.pts_rules.specs.Scopes.{after, known, signature}
 use Rattle.pts_program.specs.declared.standing.Standing.{Standing}
 use Rattle.pts_program.specs.Lists.{functions_of}
-use Rattle.pts_program.specs.Standings.{cells_in, is_large_function, IsAcceptable, IsDeclarable, IsStanding}
+use Rattle.pts_program.specs.Standings.{cells_in, is_large_function, IsAcceptable, IsAddable, IsDeclarable, IsStanding}
+use Rattle.pts_program.proofs.SoundStatements.{few_points, sound_of}
+
+never : (b : Bool) → ¬ IsTrue b → b ≡ false
+never true h = absurd (h refl)
+never false h = refl
 
 few_function : (scope : Scope) (statements held : ℕ) (x : Item) → is_too_many scope statements held x ≡ false → is_large_function scope x ≡ false
 few_function scope statements held (items.Const x) few = refl
@@ -29,6 +36,15 @@ few_function scope statements held (items.Print x) few = refl
 
 pub declarable : (standing : Standing) (x : Item) → IsAcceptable standing x → IsDeclarable standing.scope x
 declarable standing x a = record { right = a.right; shallow = a.shallow; few = few_function standing.scope standing.statements standing.cells x a.few }
+
+-- where the scope has room, it can be added to the lists
+pub addable : (standing : Standing) (earlier : ℕ) (x : Item) → IsAcceptable standing x → HasRoom standing.scope → IsAddable standing.scope earlier x
+addable standing earlier x a room = record {
+  declarable = declarable standing x a;
+  room = room;
+  sound = sound_of standing.scope standing.statements standing.cells x a.right a.few a.forward (λ p. never (is_out_at standing.scope x p) (a.stays p));
+  few = few_points standing.scope standing.statements standing.cells x earlier a.few a.affine;
+}
 
 -- the cells of all arrays are within the limit
 pub few_cells : (standing : Standing) (x : Item) → IsAcceptable standing x → standing.cells ≤ 2 ^ 20 → standing.cells + cells_in standing.scope x ≤ 2 ^ 20

@@ -101,17 +101,27 @@ is_right : (b : Bool) → not b ≡ false → IsTrue b
 is_right true e = refl
 is_right false e = absurd (cc)
 
-pub acceptable : (s : Standing) (n : ℕ) (x : Item) → None ≡ tested_fault s n x → IsAcceptable s x
-acceptable s n x e =
+pub acceptable : (s : Standing) (n : ℕ) (x : Item) → None ≡ tested_fault s n x → ((p : ℕ) → ¬ IsTrue (is_out_at s.scope x p)) → IsAcceptable s x
+acceptable s n x e within =
     let none = three_none (first_fault n (name_rules s.scope x)) (first_fault n (limit_rules s x)) (first_fault n (step_rules s.scope x)) (sym e) in
-    let names = none_holds n (name_rules s.scope x) none.0 in
-    let limits = none_holds n (limit_rules s x) none.1 in
-    let unknown = or_parts (is_unknown s.scope x) (is_twice s.scope x || (is_mistyped s.scope x || false)) names in
-    let twice = or_parts (is_twice s.scope x) (is_mistyped s.scope x || false) unknown.1 in
-    let mistyped = or_parts (is_mistyped s.scope x) false twice.1 in
-    let deep = or_parts (is_too_deep s.scope x) (is_too_many s.scope s.statements s.cells x || false) limits in
-    let many = or_parts (is_too_many s.scope s.statements s.cells x) false deep.1 in
-    record { right = is_right (item_right s.scope x) mistyped.0; shallow = deep.0; few = many.0 }
+    let unknown = or_parts (is_unknown s.scope x) _ (none_holds n (name_rules s.scope x) none.0) in
+    let twice = or_parts (is_twice s.scope x) _ unknown.1 in
+    let mistyped = or_parts (is_mistyped s.scope x) _ twice.1 in
+    let deep = or_parts (is_too_deep s.scope x) _ (none_holds n (limit_rules s x) none.1) in
+    let many = or_parts (is_too_many s.scope s.statements s.cells x) _ deep.1 in
+    let steps = or_parts (is_bad_step s.scope x) _ (none_holds n (step_rules s.scope x) none.2) in
+    let backward = or_parts (is_backward_range s.scope x) _ steps.1 in
+    let lengths = or_parts (lengths_differ s.scope x) _ backward.1 in
+    let identities = or_parts (is_bad_identity s.scope x) _ lengths.1 in
+    let affine = or_parts (is_not_affine s.scope x) _ identities.1 in
+    record {
+      right = is_right (item_right s.scope x) mistyped.0;
+      shallow = deep.0;
+      few = many.0;
+      forward = backward.0;
+      affine = affine.0;
+      stays = within;
+    }
 
 -- no rule on names is broken
 pub later : (a r : Option BuildFault) (rest : Option BuildFault) → None ≡ a → r ≡ rest → r ≡ option_or a rest

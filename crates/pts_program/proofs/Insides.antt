@@ -26,7 +26,7 @@ use Rattle.pts_starts.specs.Starts.{start_cells, value_of_val}
 use Rattle.pts_points.specs.declared.point.PointInfo.{PointInfo}
 use Rattle.pts_points.specs.Inside.{HasRoom, IsInside, lengths}
 use Rattle.pts_points.specs.Inside as scoped
-use Rattle.pts_points.specs.Points.{points_of, small}
+use Rattle.pts_points.specs.Points.{points_of}
 use Rattle.pts_points.proofs.SoundItems.{points_inside}
 use Rattle.pts_program.specs.declared.info.ArrayInfo.{ArrayInfo}
 use Rattle.pts_program.specs.declared.lists.Lists.{Lists}
@@ -184,8 +184,8 @@ pub inside_more : (before : List Item) (x : Item) (lists : Lists) → Keeps befo
 inside_more before x lists keeps room h =
     let next = known_more before x in
     let has_room : HasRoom (known before) = record { short = h.short; few = let f = h.few in omega (arith, f, room) } in
-    let new = points_of (known before) (length before + 1) (small (length lists.calls)) x in
-    let new_inside : All (IsInside (known before)) new = points_inside (known before) has_room (length before + 1) (small (length lists.calls)) x (sound_statements before x keeps) in
+    let new = points_of (known before) (length before + 1) (length lists.calls) x in
+    let new_inside : All (IsInside (known before)) new = points_inside (known before) has_room (length before + 1) (length lists.calls) x (sound_statements before x keeps) in
     record {
       sizes = sizes_more before x lists.arrays keeps h.sizes ∙ ap lengths (sym next);
       short = subst AreShort (sym next) (short_more before x keeps h.short);
@@ -208,13 +208,15 @@ item_between : (before : List Item) (x : Item) (rest : List Item) → slice_get 
 item_between [] x rest = refl
 item_between (y ∷ before) x rest = item_between before x rest
 
-pub all_keep : (script : Script) (before rest : List Item) → script.items ≡ before ++ rest → IsScriptSound script → AllKeep before rest
-all_keep script before [] is sound = tt
-all_keep script before (x ∷ rest) is sound =
-    let here : slice_get script.items (length before) ≡ Some x = ap (λ xs. slice_get xs (length before)) is ∙ item_between before x rest in
-    let front : take (length before) script.items ≡ before = ap (take (length before)) is ∙ take-append_seam before (x ∷ rest) in (
-      keeps_all script.version before x (subst (λ xs. IsClean script.version xs x) front ((clean-at script (length before) x here).0 (sound (length before + 1)))),
-      all_keep script (before ++ x ∷ []) rest (is ∙ sym (append_assoc before (x ∷ []) rest)) sound,
+pub all_keep : (script : Script) (before rest behind : List Item) → script.items ≡ before ++ (rest ++ behind)
+    → ((m : ℕ) → m ≤ length before + length rest → IsCleanAt script m) → AllKeep before rest
+all_keep script before [] behind is clean = tt
+all_keep script before (x ∷ rest) behind is clean =
+    let here : slice_get script.items (length before) ≡ Some x = ap (λ xs. slice_get xs (length before)) is ∙ item_between before x (rest ++ behind) in
+    let front : take (length before) script.items ≡ before = ap (take (length before)) is ∙ take-append_seam before (x ∷ (rest ++ behind)) in
+    let size = length-append before (x ∷ []) in (
+      keeps_all script.version before x (subst (λ xs. IsClean script.version xs x) front ((clean-at script (length before) x here).0 (clean (length before + 1) (omega arith)))),
+      all_keep script (before ++ x ∷ []) rest behind (is ∙ sym (append_assoc before (x ∷ []) (rest ++ behind))) (λ m le. clean m (omega (arith, le, size))),
     )
 
 inside_all : (before rest : List Item) (lists : Lists) → AllKeep before rest → length before + length rest ≤ 2 ^ 32 → AreInside before lists
@@ -226,6 +228,10 @@ inside_all before (x ∷ rest) lists keeps room h =
     subst (λ xs. AreInside xs (with_items (before ++ x ∷ []) (with_item (known before) (length before + 1) lists x) rest)) (append_assoc before (x ∷ []) rest)
     (inside_all (before ++ x ∷ []) rest (with_item (known before) (length before + 1) lists x) keeps.1 (omega (arith, room, size)) more)
 
+-- the items of a script that breaks no rule
+pub all_items_keep : (script : Script) → IsScriptSound script → AllKeep [] script.items
+all_items_keep script sound = all_keep script [] script.items [] (sym (append-nil script.items)) (λ m le. sound m)
+
 none_inside : AreInside [] no_lists
 unfolding known
 none_inside = record { sizes = refl; short = All-nil (λ z. z ≤ℤ pos (2 ^ 20)); few = omega arith; points = All-nil (IsInRange []); kinds = All-nil IsOfKind }
@@ -234,7 +240,7 @@ pub program_inside : (lists : Lists) → IsProgram lists → (before : List Item
 program_inside lists h = (
   h.script.items,
   subst (AreInside h.script.items) (sym h.made)
-      (inside_all [] h.script.items no_lists (all_keep h.script [] h.script.items refl h.sound) (let few = few_items h.script h.spelled in omega (arith, few)) none_inside),
+      (inside_all [] h.script.items no_lists (all_items_keep h.script h.sound) (let few = few_items h.script h.spelled in omega (arith, few)) none_inside),
 )
 
 -- every point of a program is in range
@@ -244,3 +250,11 @@ points_in_range lists h = (program_inside lists h).1.points
 -- every cell has the kind of its array
 pub kinds_agree : (lists : Lists) → IsProgram lists → All IsOfKind lists.arrays
 kinds_agree lists h = (program_inside lists h).1.kinds
+
+-- the scope that the first items leave has room, where these break no rule
+pub scope_room : (script : Script) (front behind : List Item) → script.items ≡ front ++ behind → ((m : ℕ) → m ≤ length front → IsCleanAt script m)
+    → length front < 2 ^ 32 → HasRoom (known front)
+scope_room script front behind is clean short =
+    let keep = all_keep script [] front behind is (λ m le. clean m (omega (arith, le))) in
+    let inside = inside_all [] front no_lists keep (omega (arith, short)) none_inside in
+    record { short = inside.short; few = let f = inside.few in omega (arith, f, short) }

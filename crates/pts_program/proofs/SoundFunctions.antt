@@ -22,7 +22,7 @@ use Rattle.pts_program.specs.Callings.{CallEarlier, is_one_of, uses_only}
 use Rattle.pts_program.specs.Lists.{functions_of, no_lists, with_item, with_items, IsProgram}
 use Rattle.pts_program.proofs.Callings.{AreThese, uses_these}
 use Rattle.pts_program.proofs.Declared.{known_more}
-use Rattle.pts_program.proofs.Insides.{AllKeep, all_keep}
+use Rattle.pts_program.proofs.Insides.{AllKeep, all_items_keep}
 use Rattle.pts_program.proofs.Keeping.{Keeps}
 
 abbrev names_of : List FunctionInfo → List Name
@@ -163,4 +163,4 @@ none_callable = record { names = record { no_values = λ name kind is. none-some
 -- the functions of a program call earlier ones
 pub functions_in_order : (lists : Lists) → IsProgram lists → CallEarlier [] lists.functions
 functions_in_order lists h =
-    subst (λ (l : Lists). CallEarlier [] l.functions) (sym h.made) (callable_all [] h.script.items no_lists (all_keep h.script [] h.script.items refl h.sound) none_callable)
+    subst (λ (l : Lists). CallEarlier [] l.functions) (sym h.made) (callable_all [] h.script.items no_lists (all_items_keep h.script h.sound) none_callable)

@@ -1,7 +1,7 @@
 -- The builder on its way through a script.
 use Rattle.std.proofs.Common.{◌≡◌, ℕ, zero, suc, ◌+◌, ◌^◌, ◌<◌, ◌≤◌, ◌⊎◌, inl, inr, List, [], ◌∷◌, ◌++◌, Some, length, take, drop, get_or, slice_get, refl, sym, ap, ◌∙◌, subst, arith}
 use Rattle.std.proofs.lemmas.Bool.{cases_lt}
-use Rattle.std.proofs.lemmas.List.{drop_more, drop_all}
+use Rattle.std.proofs.lemmas.List.{drop_more, drop_all, take-append-drop}
 use Rattle.std.proofs.lemmas.Option.{slice_get-get_or}
 use Rattle.pts_tree.specs.declared.script.Item.{Item}
 use Rattle.pts_tree.specs.declared.script.Script.{Script}
@@ -11,12 +11,14 @@ use Rattle.pts_program.specs.declared.builder.Builder.{Builder}
 use Rattle.pts_program.specs.declared.fault.BuildFault.{BuildFault}
 use Rattle.pts_program.specs.declared.fault.BuildFault.TheVariants.{NoMemory}
 use Rattle.pts_program.specs.declared.lists.Lists.{Lists}
-use Rattle.pts_program.specs.Building.{HasRoom, IsUnderWay}
+use Rattle.pts_points.specs.Inside.{HasRoom}
+use Rattle.pts_program.specs.Building.{CanAdd, IsUnderWay}
 use Rattle.pts_program.specs.Findings.{IsItemFault}
 use Rattle.pts_program.specs.Faults.{IsClean, IsCleanAt, IsFaultAt, IsFaultOf, IsSound}
 use Rattle.pts_program.specs.Lists.{lists_of, no_lists, with_item, with_items, IsProgram}
 use Rattle.pts_program.specs.Standings.{IsStanding}
 use Rattle.pts_program.proofs.Decisions.{clean-at, fault-at, past-end}
+use Rattle.pts_program.proofs.Insides.{scope_room}
 
 -- the item at place n, as an equation
 item_at_place : (xs : List Item) (n : ℕ) (x : Item) → n < length xs → x ≡ get_or xs n x → slice_get xs n ≡ Some x
@@ -106,8 +108,12 @@ refused script n x builder fault way within is f =
       here = fault-at script n x fault here (subst (λ k. IsFaultOf script.version (take n script.items) x k fault) count (f.in_each script.version));
     }
 
-pub room : (script : Script) (n : ℕ) (builder : Builder) → IsUnderWay script n builder → n < length script.items → IsSpelled script → HasRoom builder
-room script n builder way within spelled = record { items = let e = way.items in let few = few_items script spelled in omega (arith, e, within, few); statements = way.statements }
+pub room : (script : Script) (n : ℕ) (builder : Builder) → IsUnderWay script n builder → n < length script.items → IsSpelled script → CanAdd builder
+room script n builder way within spelled =
+    let few = few_items script spelled in
+    let front = length_front script.items n within in
+    let scope = scope_room script (take n script.items) (drop n script.items) (sym (take-append-drop n script.items)) (λ m le. way.sound m (omega (arith, le, front))) (omega (arith, front, within, few)) in
+    record { scope = subst HasRoom (sym way.standing.scope) scope; items = let e = way.items in omega (arith, e, within, few); statements = way.statements }
 
 -- the answer of the builder at such an item
 pub refusal : (script : Script) (n : ℕ) (x : Item) (builder : Builder) (fault : BuildFault) → IsUnderWay script n builder → n < length script.items → x ≡ get_or script.items n x

@@ -12,7 +12,7 @@ use Rattle.pts_constants.specs.Texts.{texts_of}
 use Rattle.pts_constants.specs.Blocks.{blocks_of}
 use Rattle.pts_points.specs.declared.point.CallInfo.{CallInfo}
 use Rattle.pts_points.specs.declared.point.PointInfo.{PointInfo}
-use Rattle.pts_points.specs.Points.{array_at, calls_of, points_of, small}
+use Rattle.pts_points.specs.Points.{array_at, calls_of, points_of}
 use Rattle.pts_starts.specs.Starts.{start_cells}
 use Rattle.pts_program.specs.declared.info.ArrayInfo.{ArrayInfo}
 use Rattle.pts_program.specs.declared.info.StatementInfo.{StatementInfo}
@@ -41,7 +41,7 @@ statements_of scope calls blocks x = []
 
 -- how many points stand before those of a call, where this many are those of earlier items
 abbrev pub start_of : ℕ → CallInfo → ℕ
-start_of earlier call = small (earlier + call.first_point)
+start_of earlier call = earlier + call.first_point
 
 -- no items
 abbrev pub no_lists : Lists
@@ -50,11 +50,11 @@ no_lists = record { arrays = []; functions = []; statements = []; calls = []; po
 -- item n more, in the scope that the items before it leave
 abbrev pub with_item : Scope → ℕ → Lists → Item → Lists
 with_item scope n lists x =
-    let calls : ℕ = small (length lists.calls) in
+    let calls : ℕ = length lists.calls in
     record {
       arrays = lists.arrays ++ arrays_of scope x;
       functions = lists.functions ++ functions_of scope x;
-      statements = lists.statements ++ statements_of scope calls (small (length lists.blocks)) x;
+      statements = lists.statements ++ statements_of scope calls (length lists.blocks) x;
       calls = lists.calls ++ calls_of scope n calls x;
       points = lists.points ++ points_of scope n calls x;
       blocks = lists.blocks ++ blocks_of scope n x;

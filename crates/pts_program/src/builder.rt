@@ -5,7 +5,7 @@ ghost use Rattle.pts_tree.specs.declared.script.Item.{Item as ItemTree};
 ghost use Rattle.pts_rules.specs.Scopes.{known};
 ghost use Rattle.pts_syntax.specs.Syntax.{IsSpelled};
 ghost use Rattle.pts_program.specs.declared.fault.BuildFault.TheVariants as faults;
-ghost use Rattle.pts_program.specs.Building.{HasRoom};
+ghost use Rattle.pts_program.specs.Building.{CanAdd};
 ghost use Rattle.pts_program.specs.Faults.{IsFaultAt, IsSound};
 ghost use Rattle.pts_program.specs.Lists as spec;
 ghost use Rattle.pts_program.specs.Standings.{IsStanding};
@@ -43,7 +43,7 @@ impl Builder {
     // One item more, or the fault that it has.
     #[tactic(auto, using(crate::proofs::Declared::declarable))]
     fn add(&mut self, alloc: Global, item: &Item) -> Result<(), BuildFault>
-        requires { HasRoom self.old }
+        requires { CanAdd self.old }
         ensures verdict { (before : List ItemTree) → IsStanding before self.old.standing → IsVerdict before item.now (self.old.items + 1) result }
         ensures standing { OnOk result ((before : List ItemTree) → IsStanding before self.old.standing → IsStanding (before ++ item.now ∷ []) self.new.standing) }
         ensures lists { OnOk result (self.new.lists ≡ spec.with_item self.old.standing.scope (self.old.items + 1) self.old.lists item.now) }

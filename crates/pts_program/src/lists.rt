@@ -1,21 +1,22 @@
 //! The lists of a program, and what one item adds to them.
 
-ghost use Rattle.std.specs.Prelude.{◌≡◌, [], ◌∷◌, false, ◌++◌, map, IsTrue, IfOk, OnOk, option_to_list};
+ghost use Rattle.std.specs.Prelude.{◌≡◌, [], ◌∷◌, false, ◌++◌, length, map, IsTrue, IfOk, OnOk, option_to_list};
 ghost use Rattle.pts_tree.specs.declared.script.Item.TheVariants as items;
 ghost use Rattle.pts_points.specs.Points as points;
 ghost use Rattle.pts_rules.specs.Mistyped.{item_right};
 ghost use Rattle.pts_rules.specs.Limits.{is_large};
 ghost use Rattle.pts_program.specs.Lists as spec;
-ghost use Rattle.pts_program.specs.Standings.{is_large_function, IsDeclarable};
+ghost use Rattle.pts_points.specs.Inside.{HasRoom};
+ghost use Rattle.pts_program.specs.Standings.{is_large_function, IsAddable, IsDeclarable};
 
 use crate::info::{ArrayInfo, StatementInfo};
 use crate::lengths::length_of;
 use pts_code::{Codes, FunctionInfo};
 use pts_constants::{BlockInfo, CallText, add_blocks, add_texts, copy_name, resolve_expr};
-use pts_points::{CallInfo, PointInfo, add_points};
+use pts_points::{CallInfo, PointInfo, array_at, item_points};
 use pts_rules::Scope;
 use pts_starts::start_cells;
-use pts_tree::{ArrayDecl, FunctionDecl, Item, Name, Param};
+use pts_tree::{ArrayDecl, FunctionDecl, Item, Param};
 use pts_types::NoMemory;
 use sqlite_items::Items;
 use std::alloc::{AllocError, Global};
@@ -53,10 +54,14 @@ impl Lists {
     }
 }
 
-fn small(n: usize) -> u32
-    ensures { result ≡ points.small n }
+// A number of entries of a list, of which there is no room for more than 32 bits count.
+fn entries(count: usize) -> Result<u32, NoMemory>
+    ensures { IfOk result (λ n. n ≡ count) }
 {
-    if n < 4294967295 { n as u32 } else { u32::MAX }
+    match u32::try_from(count) {
+        Ok(n) => Ok(n),
+        Err(_) => Err(NoMemory),
+    }
 }
 
 fn copy_params(alloc: Global, params: &[Param]) -> Result<Items<Param>, AllocError>
@@ -147,6 +152,7 @@ fn add_function(
 }
 
 fn statement_of(scope: &Scope, calls: u32, blocks: u32, item: &Item) -> Option<StatementInfo>
+    requires { HasRoom scope.now }
     ensures { option_to_list result ≡ spec.statements_of scope.now calls blocks item.now }
 {
     match item {
@@ -158,15 +164,6 @@ fn statement_of(scope: &Scope, calls: u32, blocks: u32, item: &Item) -> Option<S
     }
 }
 
-fn array_at(scope: &Scope, name: &Name) -> u32
-    ensures { result ≡ points.array_at scope.now name.now }
-{
-    match scope.array_number(name) {
-        Some(number) => small(number),
-        None => 0,
-    }
-}
-
 fn add_statement(
     scope: &Scope,
     calls: u32,
@@ -174,6 +171,7 @@ fn add_statement(
     item: &Item,
     statements: &mut Items<StatementInfo>,
 ) -> Result<(), AllocError>
+    requires { HasRoom scope.now }
     ensures { OnOk result (statements.new ≡ statements.old ++ spec.statements_of scope.now calls blocks item.now) }
 {
     if let Some(statement) = statement_of(scope, calls, blocks, item) {
@@ -194,17 +192,47 @@ fn add_names(alloc: Global, scope: &Scope, item: &Item, lists: &mut Lists) -> Re
 }
 
 // The starts of calls of one item, before whose points this many stand.
-fn add_starts(before: usize, calls: &[CallInfo], starts: &mut Items<u32>) -> Result<(), AllocError>
+fn add_starts(before: usize, calls: &[CallInfo], starts: &mut Items<u32>) -> Result<(), NoMemory>
     ensures { OnOk result (starts.new ≡ starts.old ++ map (spec.start_of before) calls.now) }
 {
     for call in calls {
-        starts.push(small(before.saturating_add(call.first_point as usize)))?;
+        let start = entries(
+            before
+                .checked_add(call.first_point as usize)
+                .ok_or(NoMemory)?,
+        )?;
+        starts.push(start)?;
     }
     Ok(())
 }
 
-/// Adds an item that is right, and small where it is a function, to the lists of those before it, in the scope that these
-/// leave.
+fn add_item_points(
+    alloc: Global,
+    scope: &Scope,
+    number: u32,
+    item: &Item,
+    lists: &mut Lists,
+) -> Result<(), NoMemory>
+    requires { IsAddable scope.now (length lists.old.calls) item.now }
+    ensures { OnOk result (lists.new ≡ record lists.old {
+      points = lists.old.points ++ points.points_of scope.now number (length lists.old.calls) item.now;
+      calls = lists.old.calls ++ points.calls_of scope.now number (length lists.old.calls) item.now;
+      call_starts = lists.old.call_starts ++ map (spec.start_of (length lists.old.points)) (points.calls_of scope.now number (length lists.old.calls) item.now);
+    }) }
+{
+    let calls = entries(lists.calls.len())?;
+    let new = item_points(alloc, scope, number, calls, item)?;
+    add_starts(
+        lists.points.len(),
+        new.calls.as_slice(),
+        &mut lists.call_starts,
+    )?;
+    lists.points.append(new.points)?;
+    lists.calls.append(new.calls)?;
+    Ok(())
+}
+
+/// Adds an item that breaks no rule to the lists of those before it, in the scope that these leave.
 pub fn add_item(
     alloc: Global,
     scope: &Scope,
@@ -212,26 +240,14 @@ pub fn add_item(
     item: &Item,
     lists: &mut Lists,
 ) -> Result<(), NoMemory>
-    requires { IsDeclarable scope.now item.now }
+    requires { IsAddable scope.now (length lists.old.calls) item.now }
     ensures { OnOk result (lists.new ≡ spec.with_item scope.now number lists.old item.now) }
 {
-    let calls = small(lists.calls.len());
-    let blocks = small(lists.blocks.len());
-    let first_call = lists.calls.len();
-    let first_point = lists.points.len();
+    let calls = entries(lists.calls.len())?;
+    let blocks = entries(lists.blocks.len())?;
     add_names(alloc, scope, item, lists)?;
     add_statement(scope, calls, blocks, item, &mut lists.statements)?;
-    add_points(
-        alloc,
-        scope,
-        number,
-        calls,
-        item,
-        &mut lists.points,
-        &mut lists.calls,
-    )?;
-    let new_calls = &lists.calls.as_slice()[first_call..];
-    add_starts(first_point, new_calls, &mut lists.call_starts)?;
+    add_item_points(alloc, scope, number, item, lists)?;
     add_blocks(alloc, scope, number, item, &mut lists.blocks)?;
     add_texts(alloc, scope, item, &mut lists.texts)
 }
