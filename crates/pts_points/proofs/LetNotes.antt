@@ -2,15 +2,12 @@
 use Rattle.std.proofs.Common.{◌≡◌, ℕ, zero, suc, ◌+◌, ◌<◌, Option, Some, None, List, [], ◌∷◌, ◌++◌, map, length, refl, sym, ap, subst, ◌∙◌, append_assoc, length-append, arith}
 use Rattle.std.specs.Prelude.{true, false, slice_get, All}
 use Rattle.std.proofs.lemmas.Option.{slice_get_within}
-use Rattle.pts_types.specs.declared.operation.ScalarOp.{ScalarOp}
 use Rattle.pts_tree.specs.declared.sum.Range.{Range}
-use Rattle.pts_tree.specs.declared.sum.Cell.{Cell}
 use Rattle.pts_tree.specs.declared.call.Call as call
 use Rattle.pts_tree.specs.declared.call.CallForm.{CallForm}
 use Rattle.pts_tree.specs.declared.call.CallForm.TheVariants as forms
 use Rattle.pts_tree.specs.declared.expr.Expr.{Expr}
 use Rattle.pts_tree.specs.declared.expr.Place.{Place}
-use Rattle.pts_tree.specs.declared.loops.Loop as loops
 use Rattle.pts_tree.specs.declared.loops.Clause.{Clause}
 use Rattle.pts_tree.specs.declared.loops.Clause.TheVariants as clauses
 use Rattle.pts_tree.specs.declared.loops.Initial.{Initial}
@@ -21,15 +18,15 @@ use Rattle.pts_rules.specs.Parts.{Name, Simple, Throw, Assign, Call, Loop, state
 use Rattle.pts_rules.specs.Known.{Scope}
 use Rattle.pts_points.specs.declared.space.IterationSpace.{IterationSpace}
 use Rattle.pts_points.specs.Lines.{no_loop, space_of}
-use Rattle.pts_points.specs.Pieces.{LetPoint, Context, Deed, Notes, Point, Piece, taken, seeing, off_from, under, nothing, behind, sequence, served, served_off, off_vector, binding, branching, alone}
-use Rattle.pts_points.specs.Points.{reads_of, both_reads, assign_deed, update_deed, kind_of_let, stmt_piece, body_piece, live_out, initial_piece, clause_piece, loop_piece, source_piece, target_piece, answer_piece, piece_of, own_piece, call_piece, statement_piece, context_of, calls_in, points_from, item_points}
+use Rattle.pts_points.specs.Pieces.{LetPoint, Context, Deed, Point, Piece, taken, seeing, off_from, under, nothing, behind, sequence, served, served_off, off_vector, binding, branching, alone}
+use Rattle.pts_points.specs.Points.{reads_of, both_reads, assign_deed, update_deed, kind_of_let, body_piece, initial_piece, clause_piece, source_piece, target_piece, answer_piece, piece_of, own_piece, call_piece, statement_piece, context_of, calls_in, points_from, item_points}
 use Rattle.pts_points.specs.Standings.{IsNoted}
 use Rattle.pts_points.proofs.Each.{Each, both, weaker, all_of, at_place}
 use Rattle.pts_points.proofs.ReadForms.{by_reads, read_deed}
 use Rattle.pts_points.proofs.StatementForms.{by_bodies, note_deed, give_deed, test_deed}
 use Rattle.pts_points.proofs.Standing.{Good, good_nothing, good_behind, good_served, good_off_vector}
-use Rattle.pts_points.proofs.Wholes.{index_ends, assigns_good, notes_good, gives_good, branches_good, tests_good, updates_good, good_reads, good_both, good_body, good_source, good_target, good_answer, good_own, good_piece_of, good_clause, good_clauses, good_statement}
-use Rattle.pts_points.proofs.Builds.{append_nothing, sized}
+use Rattle.pts_points.proofs.Wholes.{index_ends, assigns_good, notes_good, gives_good, branches_good, tests_good, updates_good, good_reads, good_source, good_target, good_own, good_piece_of, good_clause, good_clauses, good_statement}
+use Rattle.pts_points.proofs.Builds.{sized}
 
 -- ---- places in longer lists
 
