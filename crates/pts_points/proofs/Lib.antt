@@ -19,3 +19,4 @@ pub mod SoundItems
 pub mod Exact
 pub mod CallLists
 pub mod Countings
+pub mod LetNotes

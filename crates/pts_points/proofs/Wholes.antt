@@ -70,22 +70,22 @@ module _ (scope : Scope) (space : IterationSpace) where
   abbrev IsGood : List Place → ℕ → Piece → Type 0
   IsGood places n x = Good x
 
-  notes_good : (name : List ℕ) (x : Expr) → Good (binding name (kind_of_let x) (reads_of scope space x) (note_deed x))
+  pub notes_good : (name : List ℕ) (x : Expr) → Good (binding name (kind_of_let x) (reads_of scope space x) (note_deed x))
   notes_good name x = good_binding name (kind_of_let x) (reads_of scope space x) (note_deed x) (good_reads x) (λ context n. (ends_here scope space x n, tt))
 
   pub tests_good : (x : Expr) → Good (served (reads_of scope space x) (test_deed x))
   tests_good x = good_served (reads_of scope space x) (test_deed x) (good_reads x) (λ context n. (ends_here scope space x n, tt))
 
-  gives_good : (name : List ℕ) (x : Expr) → Good (served (reads_of scope space x) (give_deed name x))
+  pub gives_good : (name : List ℕ) (x : Expr) → Good (served (reads_of scope space x) (give_deed name x))
   gives_good name x = good_served (reads_of scope space x) (give_deed name x) (good_reads x) (λ context n. (ends_here scope space x n, tt))
 
-  branches_good : (c : Expr) (x y : Piece) → Good x → Good y → Good (branching (reads_of scope space c) (test_deed c) x y)
+  pub branches_good : (c : Expr) (x y : Piece) → Good x → Good y → Good (branching (reads_of scope space c) (test_deed c) x y)
   branches_good c x y g h = good_branching (reads_of scope space c) (test_deed c) x y (good_reads c) (λ context n. (ends_here scope space c n, tt)) g h
 
-  assigns_good : (at : Place) (x : Expr) → Good (served (both_reads scope space at x) (assign_deed scope space at x))
+  pub assigns_good : (at : Place) (x : Expr) → Good (served (both_reads scope space at x) (assign_deed scope space at x))
   assigns_good at x = good_served (both_reads scope space at x) (assign_deed scope space at x) (good_both at x) (both_end at x)
 
-  updates_good : (at : Place) (op : ScalarOp) (x : Expr) → Good (served_off (both_reads scope space at x) (update_deed scope space at op x))
+  pub updates_good : (at : Place) (op : ScalarOp) (x : Expr) → Good (served_off (both_reads scope space at x) (update_deed scope space at op x))
   updates_good at op x =
       good_served_off (both_reads scope space at x) (update_deed scope space at op x) (good_both at x)
       (λ context n. ((index_ends scope space at.index context n, value_ends scope space at x n), tt))

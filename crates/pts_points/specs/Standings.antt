@@ -50,6 +50,14 @@ pub record StandsBehind (x : Point) : Type 0 where
   pub lets : All (IsNotedBefore x.number) x.context.lets
   pub reads : ReadsEnd x.deed x.number
 
+-- the `let` is noted at the point that it names, as a value of its kind
+pub record IsNoted (points : List Point) (x : LetPoint) : Type 0 where
+  pub point : Point
+  pub there : slice_get points x.point ≡ Some point
+  pub value : Computation
+  pub notes : point.deed ≡ Notes value
+  pub kind : value.kind ≡ x.kind
+
 -- what stands between two points of one `off` has it too
 abbrev pub AreTogether : List Point → Type 0
 AreTogether points =

@@ -1,6 +1,6 @@
 //! What holds of the points of every item.
 
-ghost use Rattle.std.specs.Prelude.{◌≡◌, false, ℕ, ◌+◌, ◌<◌, ◌≤◌, ◌↔◌, Some, slice_get, length};
+ghost use Rattle.std.specs.Prelude.{All, ◌≡◌, false, ℕ, ◌+◌, ◌<◌, ◌≤◌, ◌↔◌, Some, slice_get, length};
 ghost use Rattle.std.specs.List.{list_any};
 ghost use Rattle.pts_tree.specs.declared.script.Item.{Item};
 ghost use Rattle.pts_rules.specs.Known.{Scope};
@@ -12,17 +12,18 @@ ghost use Rattle.pts_points.specs.declared.point.CallInfo.{CallInfo};
 ghost use Rattle.pts_points.specs.declared.point.PointInfo.{PointInfo};
 ghost use Rattle.pts_points.specs.Pieces.{Point};
 ghost use Rattle.pts_points.specs.Points.{calls_of, item_points, points_of};
-ghost use Rattle.pts_points.specs.Standings.{Ascends, IsCell, HasPoint, StandsBehind, AreTogether};
+ghost use Rattle.pts_points.specs.Standings.{Ascends, IsCell, HasPoint, IsNoted, StandsBehind, AreTogether};
 
 /// The number of a point is its place in the list of its item.
 pub fn numbers_are_places()
     ensures { (scope : Scope) (item earlier : ℕ) (x : Item) (k : ℕ) (y : PointInfo) → slice_get (points_of scope item earlier x) k ≡ Some y → y.number ≡ k }
 {}
 
-/// The tests that a point stands under ascend and stand before it. Each `let` that it may use was noted before it, and the
-/// Reads of what it computes end directly before it.
+/// The tests that a point stands under ascend and stand before it. Each `let` that it may use was noted before it, at the
+/// point that it names, and the Reads of what it computes end directly before it.
 pub fn points_stand_behind_what_they_need()
     ensures all { (scope : Scope) (earlier : ℕ) (x : Item) (k : ℕ) (p : Point) → slice_get (item_points scope earlier x) k ≡ Some p → StandsBehind p }
+    ensures noted { (scope : Scope) (earlier : ℕ) (x : Item) (k : ℕ) (p : Point) → slice_get (item_points scope earlier x) k ≡ Some p → All (IsNoted (item_points scope earlier x)) p.context.lets }
     ensures shown { (scope : Scope) (item earlier : ℕ) (x : Item) (k : ℕ) (y : PointInfo) → slice_get (points_of scope item earlier x) k ≡ Some y → Ascends 0 y.branches y.number }
 {}
 
