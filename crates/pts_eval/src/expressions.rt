@@ -436,13 +436,7 @@ fn eval(names: &Names<'_>, kind: Kind, first: usize, expr: &Expr) -> Result<Valu
         Expr::Paren(inner) => eval(names, kind, first, inner.get()),
         Expr::Minus(operand) => eval_minus(names, kind, first, operand.get()),
         Expr::Not(operand) => eval_not(names, first, operand.get()),
-        Expr::Chain(operand, parts) => eval_chain(
-            names,
-            kind,
-            first,
-            operand.get(),
-            parts.as_slice(),
-        ),
+        Expr::Chain(start, parts) => eval_chain(names, kind, first, start.get(), parts.as_slice()),
         Expr::Compare(op, left, right) => {
             let sides = Comparison {
                 op: *op,
