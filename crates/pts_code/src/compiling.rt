@@ -27,27 +27,28 @@ pub enum Spot {
 }
 
 /// The names that an expression may use, and where each of the local values among them stands, in the order of their
-/// numbers. Those that have no spot of their own stand in the frame at their numbers.
+/// numbers. Those that have no spot of their own stand in the frame at their numbers. What `compile` promises is said of
+/// scopes without constants and views, whose functions `enter_functions` has entered, and whose arrays have length 0 there.
 #[derive(Clone, Copy)]
 pub struct Names<'a> {
     pub scope: &'a Scope,
     pub spots: &'a [Spot],
 }
 
-// The two sides of a comparison.
+/// The two sides of a comparison, and what compares them.
 #[derive(Clone, Copy)]
-struct Comparison<'a> {
-    op: ScalarOp,
-    left: &'a Expr,
-    right: &'a Expr,
+pub struct Comparison<'a> {
+    pub op: ScalarOp,
+    pub left: &'a Expr,
+    pub right: &'a Expr,
 }
 
-// A test and the two branches behind it.
+/// A test and the two branches behind it: the first where it is true.
 #[derive(Clone, Copy)]
-struct Choice<'a> {
-    test: &'a Expr,
-    first: &'a Expr,
-    second: &'a Expr,
+pub struct Choice<'a> {
+    pub test: &'a Expr,
+    pub first: &'a Expr,
+    pub second: &'a Expr,
 }
 
 // The number of a literal number.

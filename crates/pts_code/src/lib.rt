@@ -14,7 +14,7 @@ mod values;
 
 pub use code::{Code, Step};
 pub use codes::{Codes, enter_functions};
-pub use compiling::{Names, Spot, compile};
+pub use compiling::{Choice, Comparison, Names, Spot, compile};
 pub use evaluation::{Frame, eval};
 pub use function::FunctionInfo;
 pub use laws::{

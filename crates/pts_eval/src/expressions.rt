@@ -14,12 +14,12 @@ ghost use Rattle.pts_eval.specs.Expressions as spec;
 
 use arrayvec::ArrayVec;
 use pts_code::{
-    FunctionInfo, inverted, is_true, literal_value, negated, number_value, numbers_in, operated,
-    opposite, throw_code,
+    Choice, Comparison, FunctionInfo, inverted, is_true, literal_value, negated, number_value,
+    numbers_in, operated, opposite, throw_code,
 };
 use pts_program::{ArrayInfo, Program};
 use pts_tree::{ChainPart, Expr, Name, Param};
-use pts_types::{Kind, ScalarOp, Thrown, Value, convert};
+use pts_types::{Kind, Thrown, Value, convert};
 
 /// A local name and its value.
 #[derive(Debug, Drop)]
@@ -209,22 +209,6 @@ fn own_kind(names: &Names<'_>, expr: &Expr) -> Option<Kind>
 }
 
 // ---- values
-
-// Two expressions and what compares them.
-#[derive(Clone, Copy)]
-struct Comparison<'a> {
-    op: ScalarOp,
-    left: &'a Expr,
-    right: &'a Expr,
-}
-
-// A test and the two branches behind it.
-#[derive(Clone, Copy)]
-struct Choice<'a> {
-    test: &'a Expr,
-    first: &'a Expr,
-    second: &'a Expr,
-}
 
 fn taken(reads: &[Result<Value, Thrown>], number: usize) -> Result<Value, Thrown>
     ensures { result ≡ (valued.listed reads.now).outcome number }
@@ -436,13 +420,7 @@ fn eval(names: &Names<'_>, kind: Kind, first: usize, expr: &Expr) -> Result<Valu
         Expr::Paren(inner) => eval(names, kind, first, inner.get()),
         Expr::Minus(operand) => eval_minus(names, kind, first, operand.get()),
         Expr::Not(operand) => eval_not(names, first, operand.get()),
-        Expr::Chain(operand, parts) => eval_chain(
-            names,
-            kind,
-            first,
-            operand.get(),
-            parts.as_slice(),
-        ),
+        Expr::Chain(start, parts) => eval_chain(names, kind, first, start.get(), parts.as_slice()),
         Expr::Compare(op, left, right) => {
             let sides = Comparison {
                 op: *op,

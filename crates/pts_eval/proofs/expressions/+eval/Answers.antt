@@ -315,11 +315,11 @@ eval-eval_chain-requires t c =
       c.decreases,
       c.requires,
       ap weight c.in-Chain.is,
-      weigh.weight-Chain c.in-Chain.operand c.in-Chain.parts,
+      weigh.weight-Chain c.in-Chain.start c.in-Chain.parts,
       ap weight c.get-in-Chain.ensures,
       ap part_weights c.as_slice-in-Chain.ensures,
       ap (numbers false) c.in-Chain.is,
-      number.numbers-Chain false c.in-Chain.operand c.in-Chain.parts,
+      number.numbers-Chain false c.in-Chain.start c.in-Chain.parts,
       ap (numbers false) c.get-in-Chain.ensures,
       ap part_numbers c.as_slice-in-Chain.ensures,
     )
