@@ -72,7 +72,7 @@ pub(crate) fn enter_function(
 ) -> Result<(), NoMemory>
     ensures { OnOk result (scope.new ≡ with_signature scope.old function.now) }
 {
-    let params = param_kinds(alloc, function.params.as_slice()).map_err(|_| NoMemory)?;
+    let params = param_kinds(alloc, function.params.as_slice())?;
     let signature = Signature {
         params,
         kind: function.kind,
@@ -110,7 +110,7 @@ fn compile_body(alloc: Global, scope: &mut Scope, function: &FunctionInfo) -> Re
         scope: &*scope,
         spots: &[],
     };
-    let code = compile(alloc, &names, function.kind, 0, &function.body).map_err(|_| NoMemory)?;
+    let code = compile(alloc, &names, function.kind, 0, &function.body)?;
     scope.leave(len);
     Ok(code)
 }

@@ -174,5 +174,5 @@ pub fn item_points(
     ensures points { IfOk result (λ x. x.points ≡ points.points_of scope.now number earlier item.now) }
     ensures calls { IfOk result (λ x. x.calls ≡ points.calls_of scope.now number earlier item.now) }
 {
-    build_item(alloc, scope, number, earlier, item).map_err(|_| NoMemory)
+    Ok(build_item(alloc, scope, number, earlier, item)?)
 }
