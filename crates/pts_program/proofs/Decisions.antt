@@ -1,5 +1,5 @@
 -- A script has a fault or breaks no rule.
-use Rattle.std.proofs.Common.{◌≡◌, ℕ, zero, suc, ◌+◌, ◌-◌, ◌<◌, ◌≤◌, ◌⊎◌, ◌↔◌, inl, inr, Bool, true, false, IsTrue, IsSomeAnd, Option, Some, None, List, [], ◌∷◌, length, take, slice_get, refl, sym, ap, ◌∙◌, subst, arith}
+use Rattle.std.proofs.Common.{◌≡◌, ℕ, zero, suc, ◌+◌, ◌-◌, ◌<◌, ◌≤◌, ◌⊎◌, ◌↔◌, inl, inr, Bool, true, false, IsTrue, IsSomeAnd, Option, Some, None, List, [], ◌∷◌, length, take, slice_get, refl, sym, subst, arith}
 use Rattle.std.specs.Prelude.{◌-ℤ◌, flat_map, IfSome, MatchOption}
 use Rattle.std.specs.List.{list_any}
 use Rattle.std.proofs.lemmas.Bool.{cases_lt, or_cases, false≢true}
@@ -13,7 +13,7 @@ use Rattle.pts_rules.specs.Scopes.{known}
 use Rattle.pts_rules.specs.Indices.{Reach, Span, Along, leaves, reaches, is_out_at}
 use Rattle.pts_program.specs.declared.fault.BuildFault.{BuildFault}
 use Rattle.pts_program.specs.declared.fault.BuildFault.TheVariants.{OutOfRange}
-use Rattle.pts_program.specs.Faults.{rules, first_fault, IsFirstOut, IsOutOfRange, IsFaultOf, IsClean, IsCleanAt, IsFaultAt, IsSound, item_at, items_before}
+use Rattle.pts_program.specs.Faults.{rules, first_fault, IsOutOfRange, IsFaultOf, IsClean, IsCleanAt, IsFaultAt, IsSound, item_at, items_before}
 use Rattle.pts_program.proofs.Findings.{none_holds}
 
 -- ---- least numbers

@@ -1,8 +1,8 @@
 -- What the tests of an item find is its verdict.
-use Rattle.std.proofs.Common.{◌≡◌, ℕ, ◌≤◌, ◌⊎◌, inl, inr, Bool, true, false, IsTrue, Option, Some, None, List, [], ◌∷◌, ◌++◌, refl, sym, ap, ◌∙◌, subst, arith}
+use Rattle.std.proofs.Common.{◌≡◌, ℕ, ◌≤◌, inl, inr, Bool, true, false, IsTrue, Option, Some, None, List, [], ◌∷◌, ◌++◌, refl, sym, ap, ◌∙◌, subst}
 use Rattle.std.specs.List.{list_any}
 use Rattle.std.specs.Option.{option_or}
-use Rattle.std.specs.Prelude.{◌||◌, if◌then◌else◌, count_by, not, MatchOption, Ok, Err}
+use Rattle.std.specs.Prelude.{◌||◌, if◌then◌else◌, not, MatchOption, Ok, Err}
 use Rattle.std.proofs.lemmas.Bool.{or_parts}
 use Rattle.pts_tree.specs.declared.script.Item.{Item}
 use Rattle.pts_rules.specs.Indices.{is_not_affine, is_out_at}
@@ -12,7 +12,7 @@ use Rattle.pts_rules.specs.Mistyped.{is_mistyped, item_right}
 use Rattle.pts_rules.specs.Names.{is_twice, is_unknown}
 use Rattle.pts_rules.specs.Steps.{is_bad_identity, is_bad_step, is_backward_range, lengths_differ}
 use Rattle.pts_program.specs.declared.fault.BuildFault.{BuildFault}
-use Rattle.pts_program.specs.declared.fault.BuildFault.TheVariants.{Unknown, Twice, Mistyped, TooDeep, TooMany, BadStep, BackwardRange, LengthsDiffer, BadIdentity, NotAffine, OutOfRange, NoMemory}
+use Rattle.pts_program.specs.declared.fault.BuildFault.TheVariants.{OutOfRange, NoMemory}
 use Rattle.pts_program.specs.declared.standing.Standing.{Standing}
 use Rattle.pts_program.specs.Faults.{Rule, rules, first_fault, IsClean, IsFirstOut, IsOutOfRange}
 use Rattle.pts_program.specs.Findings.{IsVerdict, limit_rules, name_rules, step_rules, tested_fault}

@@ -1,12 +1,12 @@
 -- No script has two faults, and one that has a fault breaks a rule.
-use Rattle.std.proofs.Common.{◌≡◌, ℕ, ◌<◌, ◌≤◌, ◌⊎◌, inl, inr, false, Option, Some, None, List, IsSomeAnd, refl, sym, ap, ◌∙◌, subst, arith}
+use Rattle.std.proofs.Common.{◌≡◌, ℕ, ◌<◌, ◌≤◌, ◌⊎◌, inl, inr, Option, Some, None, List, IsSomeAnd, sym, ap, ◌∙◌, subst, arith}
 use Rattle.std.specs.Prelude.{IfSome, MatchOption}
 use Rattle.std.proofs.lemmas.Bool.{cases_lt}
 use Rattle.pts_tree.specs.declared.script.Item.{Item}
 use Rattle.pts_tree.specs.declared.script.Script.{Script}
 use Rattle.pts_program.specs.declared.fault.BuildFault.{BuildFault}
 use Rattle.pts_program.specs.declared.fault.BuildFault.TheVariants.{OutOfRange}
-use Rattle.pts_program.specs.Faults.{rules, first_fault, IsOutOfRange, IsFaultOf, IsClean, IsCleanAt, IsFaultAt, IsSound, item_at, items_before}
+use Rattle.pts_program.specs.Faults.{rules, first_fault, IsOutOfRange, IsFaultOf, IsClean, IsFaultAt, IsSound, item_at, items_before}
 use Rattle.pts_program.proofs.Findings.{no_fault}
 
 -- an item has one fault

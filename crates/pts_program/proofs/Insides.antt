@@ -34,7 +34,7 @@ use Rattle.pts_program.specs.Faults.{IsClean, IsCleanAt, IsSound as IsScriptSoun
 use Rattle.pts_program.specs.Lists.{arrays_of, no_lists, with_item, with_items, IsProgram}
 use Rattle.pts_program.specs.Ranges.{IsInRange, IsOfKind, length_at}
 use Rattle.pts_program.proofs.CellKinds.{kinds_more}
-use Rattle.pts_program.proofs.Declared.{cells_after, known_more}
+use Rattle.pts_program.proofs.Declared.{known_more}
 use Rattle.pts_program.proofs.Decisions.{clean-at}
 use Rattle.pts_program.proofs.Keeping.{Keeps, keeps_all}
 use Rattle.pts_program.proofs.SoundStatements.{sound_statements}

@@ -1,5 +1,5 @@
 -- Points whose cells are those of their arrays, and arrays whose cells have their kinds.
-use Rattle.std.specs.Prelude.{◌≡◌, All, ℕ, ◌<◌, None, Some, List, length, slice_get, pos, ◌≤ℤ◌, ◌<ℤ◌}
+use Rattle.std.specs.Prelude.{All, ℕ, ◌<◌, None, Some, List, length, slice_get, pos, ◌≤ℤ◌, ◌<ℤ◌}
 use Rattle.pts_types.specs.Arithmetic.{IsValueOf}
 use Rattle.pts_affine.specs.Lines.{cell, IsBounded}
 use Rattle.pts_points.specs.declared.point.PointInfo.{PointInfo}

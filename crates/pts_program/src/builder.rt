@@ -1,6 +1,6 @@
 //! The builder.
 
-ghost use Rattle.std.specs.Prelude.{◌≡◌, ◌⊎◌, ℕ, ◌+◌, ◌-◌, ◌<◌, ◌≤◌, ◌^◌, [], ◌∷◌, ◌++◌, List, length, IfErr, IfOk, OnOk};
+ghost use Rattle.std.specs.Prelude.{◌≡◌, ◌⊎◌, ℕ, ◌+◌, ◌≤◌, [], ◌∷◌, ◌++◌, List, length, IfErr, IfOk, OnOk};
 ghost use Rattle.pts_tree.specs.declared.script.Item.{Item as ItemTree};
 ghost use Rattle.pts_rules.specs.Scopes.{known};
 ghost use Rattle.pts_syntax.specs.Syntax.{IsSpelled};
@@ -59,8 +59,8 @@ impl Builder {
     }
 }
 
-/// The program of a script that the grammar spells in fewer than 2^32 tokens, or the fault of its first item that breaks a rule, which names the first
-/// rule that it breaks.
+/// The program of a script that the grammar spells in fewer than 2^32 tokens, or the fault of its first item that breaks a
+/// rule, which names the first rule that it breaks.
 #[tactic(auto, using(crate::proofs::Ways::started, crate::proofs::Ways::one_more, crate::proofs::Ways::finished, crate::proofs::Ways::programmed, crate::proofs::Ways::room))]
 pub fn build(alloc: Global, script: &Script) -> Result<Program, BuildFault>
     requires { IsSpelled script.now }

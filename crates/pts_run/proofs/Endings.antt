@@ -1,6 +1,5 @@
 -- How a call ends that was to write a whole text.
-use Rattle.std.proofs.Common.{◌≡◌, ◌≢◌, ◌≤◌, ℕ, List, [], ◌++◌, length, Option, Some, None, Result, Ok, Err, IfOk, IfSome, OnOk, refl, sym, ap, subst, inl, inr, arith}
-use Rattle.std.specs.Io.{StartsWith}
+use Rattle.std.proofs.Common.{◌≡◌, ◌≢◌, ◌≤◌, ℕ, List, [], ◌++◌, length, Option, Some, None, Result, Ok, Err, IfOk, IfSome, OnOk, refl, ap, subst, inl, inr, arith}
 use Rattle.std.specs.Io.KnownBytes.{Appends}
 use Rattle.std.proofs.KnownBytes.{Appends-nil}
 use Rattle.pts_tree.specs.declared.script.Script.{Script}
@@ -12,7 +11,6 @@ use Rattle.pts_run.specs.declared.refusal.Refusal.TheVariants as refusals
 use Rattle.pts_run.specs.declared.refusal.Refusal.TheVariants.{TooLong}
 use Rattle.pts_run.specs.declared.run.WriteEnd.{WriteEnd}
 use Rattle.pts_run.specs.declared.run.WriteEnd.TheVariants as ends
-use Rattle.pts_run.specs.declared.status.Status.{Status}
 use Rattle.pts_run.specs.declared.status.Status.TheVariants as status
 use Rattle.pts_run.specs.declared.words.Command.{Command}
 use Rattle.pts_run.specs.declared.words.Command.TheVariants as commands

@@ -1,5 +1,5 @@
 -- No command takes bytes that it refuses, and it refuses bytes for one reason.
-use Rattle.std.proofs.Common.{◌⊎◌, inl, inr, ◌≡◌, ◌≢◌, ◌<◌, ℕ, Some, List, length, refl, sym, ap, subst, ◌∙◌, arith}
+use Rattle.std.proofs.Common.{◌⊎◌, inl, inr, ◌≡◌, ◌<◌, ℕ, Some, List, length, refl, sym, ap, subst, ◌∙◌, arith}
 use Rattle.pts_tree.specs.declared.script.Script.{Script}
 use Rattle.pts_syntax.specs.declared.reading.SyntaxFault.{SyntaxFault}
 use Rattle.pts_syntax.proofs.OneFault.{same_script, no_fault_of_a_script, same_fault}

@@ -1,5 +1,5 @@
 -- A script within the limit has few tokens.
-use Rattle.std.proofs.Common.{inl, inr, sym, ◌≡◌, ℕ, ◌+◌, ◌<◌, ◌≤◌, ◌^◌, List, [], ◌∷◌, ◌++◌, length, ap, subst, ◌∙◌, length-append, arith}
+use Rattle.std.proofs.Common.{inl, inr, ◌≡◌, ℕ, ◌+◌, ◌≤◌, List, [], ◌∷◌, ◌++◌, length, ap, ◌∙◌, length-append, arith}
 use Rattle.pts_lex.specs.declared.token.Token.{Token}
 use Rattle.pts_lex.specs.Lexical.{Cuts, IsLexeme, LeadTo}
 use Rattle.pts_tree.specs.declared.script.Script.{Script}

@@ -8,7 +8,6 @@ use Rattle.pts_run.specs.declared.answer.Finish.{Finish}
 use Rattle.pts_run.specs.declared.answer.Finish.TheVariants as finishes
 use Rattle.pts_run.specs.declared.run.WriteEnd.{WriteEnd}
 use Rattle.pts_run.specs.declared.run.WriteEnd.TheVariants as ends
-use Rattle.pts_run.specs.declared.refusal.Refusal.{Refusal}
 use Rattle.pts_run.specs.declared.status.Status.{Status}
 use Rattle.pts_run.specs.declared.status.Status.TheVariants as status
 use Rattle.pts_run.specs.declared.words.Command.{Command}

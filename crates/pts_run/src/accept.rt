@@ -1,6 +1,6 @@
 //! Which scripts are run: those that break no rule, and whose statements are all built.
 
-ghost use Rattle.std.specs.Prelude.{◌≡◌, ◌<◌, ◌^◌, length, Err, IfOk};
+ghost use Rattle.std.specs.Prelude.{◌≡◌, Err, IfOk};
 ghost use Rattle.pts_syntax.specs.Syntax.{IsSpelled};
 ghost use Rattle.pts_run.specs.declared.refusal.Refusal.{Refusal as Reason};
 ghost use Rattle.pts_run.specs.Acceptance as spec;

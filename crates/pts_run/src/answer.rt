@@ -1,6 +1,6 @@
 //! What a command writes for the script that it was given.
 
-ghost use Rattle.std.specs.Prelude.{◌≡◌, ◌≢◌, ◌<◌, ◌^◌, ℕ, List, Ok, length};
+ghost use Rattle.std.specs.Prelude.{◌≡◌, ◌≢◌, ℕ, List, Ok};
 ghost use Rattle.pts_syntax.specs.Syntax.{IsSpelled};
 ghost use Rattle.pts_run.specs.Output.{Reads, Refuses};
 ghost use Rattle.pts_boards.specs.declared.pool.Pool.{Pool as PoolOf};
