@@ -3,6 +3,7 @@
 
 mod lists;
 mod points;
+mod values;
 
 use crate::script::read_script;
 use crate::{Command, Status, read_words, run_words};
