@@ -4,10 +4,10 @@ use crate::script::read_script;
 use pts_code::numbers_in;
 use pts_eval::{Local, eval_expr};
 use pts_io::MemorySource;
-use pts_program::{Program, build};
+use pts_program::build;
 use pts_tree::{BodyStmt, Expr, Item, Name, Script};
 use pts_types::{Kind, Thrown, Value};
-use std::alloc::{AllocError, Global};
+use std::alloc::Global;
 use std::fmt::Write;
 use std::test::Fail;
 
