@@ -111,8 +111,8 @@ fn search_right(scope: &Scope, call: &Call) -> bool
     applies_to(scope, Kind::Bool, call) && store_right(scope, Kind::U64, &call.store)
 }
 
-// The kind of a sum: what its function gives, or that of its elements.
-fn sum_kind(scope: &Scope, call: &Call) -> Option<Kind>
+/// The kind of a sum or a scan: what its function gives, or that of its elements; None where there is no such function or array.
+pub fn sum_kind(scope: &Scope, call: &Call) -> Option<Kind>
     ensures { result ≡ spec.sum_kind scope.now call.now }
 {
     match &call.function {

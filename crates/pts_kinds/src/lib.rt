@@ -12,6 +12,8 @@ mod numbers;
 mod starts;
 mod tasks;
 
+pub use calls::sum_kind;
 pub use exprs::expr_typing;
 pub use items::is_right;
 pub use kinds::{Kinds, Typing};
+pub use names::kind_of_array;

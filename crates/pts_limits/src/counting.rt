@@ -37,10 +37,10 @@ fn part_reads(parts: &[ChainPart]) -> u64
     count
 }
 
-// How many elements an expression reads.
+/// How many elements an expression reads, those inside of indices too; the greatest `u64` where there are more.
 #[cycle(reads)]
 #[tactic(auto, using(pts_rules::proofs::ElementCounts::reads_by_form))]
-fn reads(expr: &Expr) -> u64
+pub fn reads(expr: &Expr) -> u64
     ensures { result ≡ capped (spec.reads expr.now) }
 {
     match expr {
@@ -152,7 +152,8 @@ fn cell_points(cell: &Option<Cell>) -> u64
     }
 }
 
-fn call_points(call: &Call) -> u64
+/// How many points a call has.
+pub fn call_points(call: &Call) -> u64
     ensures { result ≡ spec.statement_points (parts.Call call.now) }
 {
     own_points(call.form)
@@ -161,7 +162,8 @@ fn call_points(call: &Call) -> u64
         + cell_points(&call.store)
 }
 
-fn points_of_loop(each: &Loop) -> u64
+/// How many points a loop has; the greatest `u64` where there are more.
+pub fn points_of_loop(each: &Loop) -> u64
     ensures { result ≡ capped (spec.statement_points (parts.Loop each.now)) }
 {
     points_of_clauses(each.clauses.as_slice()).saturating_add(points_of_body(each.body.as_slice()))

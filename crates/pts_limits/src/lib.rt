@@ -10,7 +10,7 @@ mod sizes;
 mod statements;
 mod steps;
 
-pub use counting::points;
+pub use counting::{call_points, points, points_of_loop, reads};
 pub use depths::depth_of;
 pub use limits::{
     has_backward_range, has_bad_identity, has_bad_step, is_too_deep, is_too_many, lengths_differ,

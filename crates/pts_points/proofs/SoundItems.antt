@@ -38,21 +38,21 @@ use Rattle.pts_points.proofs.Interiors.{Stays, each_stays, IsHeld, HoldsPoint, A
 
 -- ---- numbers
 
-known_number : (o : Option ℤ) (test : ℤ → Bool) → has test o ≡ true → test (elim o [ None ↦ pos 0 | Some z ↦ z ]) ≡ true
+pub known_number : (o : Option ℤ) (test : ℤ → Bool) → has test o ≡ true → test (elim o [ None ↦ pos 0 | Some z ↦ z ]) ≡ true
 known_number None test h = absurd (false≢true h)
 known_number (Some z) test h = h
 
-place_bounds : (z : ℤ) → is_place z ≡ true → (pos 0 ≤ℤ z) × (z ≤ℤ greatest_i64)
+pub place_bounds : (z : ℤ) → is_place z ≡ true → (pos 0 ≤ℤ z) × (z ≤ℤ greatest_i64)
 place_bounds z h = grind (arith, h)
 
-word_bounds : (z : ℤ) → holds kinds.I64 z ≡ true → (least_i64 ≤ℤ z) × (z ≤ℤ greatest_i64)
+pub word_bounds : (z : ℤ) → holds kinds.I64 z ≡ true → (least_i64 ≤ℤ z) × (z ≤ℤ greatest_i64)
 word_bounds z h = grind (arith, h)
 
 natural_same : (z : ℤ) → pos 0 ≤ℤ z → pos (natural z) ≡ z
 natural_same (pos n) h = refl
 natural_same (negsuc n) h = absurd (grind (arith, h))
 
-not_less : (x y : ℤ) → int_lt x y ≡ false → y ≤ℤ x
+pub not_less : (x y : ℤ) → int_lt x y ≡ false → y ≤ℤ x
 not_less x y h = grind (arith, h)
 
 not_more : (n : ℕ) → nat_lt (2 ^ 20) n ≡ false → n ≤ 2 ^ 20
@@ -60,7 +60,7 @@ not_more n h = grind (arith, h)
 
 -- ---- ranges and cells
 
-span_end : (low high size : ℤ) → Stays (Span low high size) → high ≤ℤ size
+pub span_end : (low high size : ℤ) → Stays (Span low high size) → high ≤ℤ size
 span_end low high size h = let e : (int_lt size high && natural (size -ℤ low) == natural (size -ℤ low)) ≡ false = h (natural (size -ℤ low)) in grind (arith, e)
 
 -- a range of k cells from low on
@@ -270,7 +270,7 @@ module _ (scope : Scope) (room : HasRoom scope) where
 
   -- ---- what is kept
 
-  step_right : (x : Option Sum) → if_there (sum_is scope (holds kinds.I64)) x ≡ true → holds kinds.I64 (step_of scope x) ≡ true
+  pub step_right : (x : Option Sum) → if_there (sum_is scope (holds kinds.I64)) x ≡ true → holds kinds.I64 (step_of scope x) ≡ true
   step_right None h = refl
   step_right (Some x) h = known_number (sum_value scope x) (holds kinds.I64) h
 

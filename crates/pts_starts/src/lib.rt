@@ -5,3 +5,4 @@ mod starts;
 mod values;
 
 pub use starts::start_cells;
+pub use values::{value_of_val, value_with};
