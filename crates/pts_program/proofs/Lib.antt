@@ -3,6 +3,7 @@ pub mod Callings
 pub mod Clips
 pub mod Decisions
 pub mod FirstFaults
+pub mod FunctionNumbers
 pub mod Insides
 pub mod Keeping
 pub mod SoundFunctions

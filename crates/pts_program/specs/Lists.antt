@@ -1,4 +1,5 @@
--- The lists of a script: arrays, functions, statements, calls, points, blocks and texts, in text order.
+-- The lists of a script, in text order: arrays, functions, statements, calls, points, blocks, texts, and calls and blocks in the
+-- form in which they run.
 use Rattle.std.specs.Prelude.{◌≡◌, ℕ, ◌+◌, List, [], ◌∷◌, ◌++◌, length, map, take, drop, slice_get, None, Some}
 use Rattle.pts_tree.specs.declared.script.Item.{Item}
 use Rattle.pts_tree.specs.declared.script.Item.TheVariants as items
@@ -10,6 +11,8 @@ use Rattle.pts_code.specs.declared.function.FunctionInfo.{FunctionInfo}
 use Rattle.pts_constants.specs.Resolved.{resolved_expr}
 use Rattle.pts_constants.specs.Texts.{texts_of}
 use Rattle.pts_constants.specs.Blocks.{blocks_of}
+use Rattle.pts_lowering.specs.Blocks.{lowered_blocks}
+use Rattle.pts_lowering.specs.Forms.{lowered_calls}
 use Rattle.pts_points.specs.declared.point.CallInfo.{CallInfo}
 use Rattle.pts_points.specs.declared.point.PointInfo.{PointInfo}
 use Rattle.pts_points.specs.Points.{array_at, calls_of, points_of}
@@ -45,7 +48,7 @@ start_of earlier call = earlier + call.first_point
 
 -- no items
 abbrev pub no_lists : Lists
-no_lists = record { arrays = []; functions = []; statements = []; calls = []; points = []; blocks = []; texts = []; call_starts = [] }
+no_lists = record { arrays = []; functions = []; statements = []; calls = []; points = []; blocks = []; texts = []; lowered_calls = []; lowered_blocks = []; call_starts = [] }
 
 -- item n more, in the scope that the items before it leave
 abbrev pub with_item : Scope → ℕ → Lists → Item → Lists
@@ -59,6 +62,8 @@ with_item scope n lists x =
       points = lists.points ++ points_of scope n calls x;
       blocks = lists.blocks ++ blocks_of scope n x;
       texts = lists.texts ++ texts_of scope x;
+      lowered_calls = lists.lowered_calls ++ lowered_calls scope x;
+      lowered_blocks = lists.lowered_blocks ++ lowered_blocks n calls (length lists.blocks) x;
       call_starts = lists.call_starts ++ map (start_of (length lists.points)) (calls_of scope n calls x);
     }
 

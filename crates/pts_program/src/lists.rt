@@ -5,6 +5,10 @@ ghost use Rattle.pts_tree.specs.declared.script.Item.TheVariants as items;
 ghost use Rattle.pts_points.specs.Points as points;
 ghost use Rattle.pts_rules.specs.Mistyped.{item_right};
 ghost use Rattle.pts_rules.specs.Limits.{is_large};
+ghost use Rattle.pts_rules.specs.Parts.{statements};
+ghost use Rattle.pts_lowering.specs.Blocks as tasks;
+ghost use Rattle.pts_lowering.specs.Fitting.{CanLower};
+ghost use Rattle.pts_lowering.specs.Forms as forms;
 ghost use Rattle.pts_program.specs.Lists as spec;
 ghost use Rattle.pts_points.specs.Inside.{HasRoom};
 ghost use Rattle.pts_program.specs.Standings.{is_large_function, IsAddable, IsDeclarable};
@@ -13,6 +17,7 @@ use crate::info::{ArrayInfo, StatementInfo};
 use crate::lengths::length_of;
 use pts_code::{Codes, FunctionInfo};
 use pts_constants::{BlockInfo, CallText, add_blocks, add_texts, copy_name, resolve_expr};
+use pts_lowering::{LoweredBlock, LoweredCall, add_lowered_blocks, add_lowered_calls};
 use pts_points::{CallInfo, PointInfo, array_at, item_points};
 use pts_rules::Scope;
 use pts_starts::start_cells;
@@ -32,6 +37,8 @@ pub struct Lists {
     pub points: Items<PointInfo>,
     pub blocks: Items<BlockInfo>,
     pub texts: Items<CallText>,
+    pub lowered_calls: Items<LoweredCall>,
+    pub lowered_blocks: Items<LoweredBlock>,
     /// How many points, of all items, stand before those of each call.
     pub call_starts: Items<u32>,
 }
@@ -49,6 +56,8 @@ impl Lists {
             points: Items::new(alloc),
             blocks: Items::new(alloc),
             texts: Items::new(alloc),
+            lowered_calls: Items::new(alloc),
+            lowered_blocks: Items::new(alloc),
             call_starts: Items::new(alloc),
         }
     }
@@ -232,6 +241,32 @@ fn add_item_points(
     Ok(())
 }
 
+fn add_lowered(
+    alloc: Global,
+    scope: &Scope,
+    number: u32,
+    calls: u32,
+    blocks: u32,
+    item: &Item,
+    lists: &mut Lists,
+) -> Result<(), NoMemory>
+    requires { CanLower scope.now (statements item.now) }
+    ensures { OnOk result (lists.new ≡ record lists.old {
+      lowered_calls = lists.old.lowered_calls ++ forms.lowered_calls scope.now item.now;
+      lowered_blocks = lists.old.lowered_blocks ++ tasks.lowered_blocks number calls blocks item.now;
+    }) }
+{
+    add_lowered_calls(alloc, scope, item, &mut lists.lowered_calls)?;
+    add_lowered_blocks(
+        alloc,
+        number,
+        calls,
+        blocks,
+        item,
+        &mut lists.lowered_blocks,
+    )
+}
+
 /// Adds an item that breaks no rule to the lists of those before it, in the scope that these leave.
 pub fn add_item(
     alloc: Global,
@@ -248,6 +283,7 @@ pub fn add_item(
     add_names(alloc, scope, item, lists)?;
     add_statement(scope, calls, blocks, item, &mut lists.statements)?;
     add_item_points(alloc, scope, number, item, lists)?;
+    add_lowered(alloc, scope, number, calls, blocks, item, lists)?;
     add_blocks(alloc, scope, number, item, &mut lists.blocks)?;
     add_texts(alloc, scope, item, &mut lists.texts)
 }

@@ -7,6 +7,7 @@ use crate::info::{ArrayInfo, StatementInfo};
 use crate::lists::Lists;
 use pts_code::{Codes, FunctionInfo};
 use pts_constants::{BlockInfo, CallText};
+use pts_lowering::{LoweredBlock, LoweredCall};
 use pts_points::{CallInfo, PointInfo};
 use std::marker::Model;
 
@@ -24,10 +25,11 @@ impl Model for Program {
     ghost use Rattle.pts_tree.specs.contracts.block.TaskStmt as tasks;
     ghost use Rattle.pts_tree.specs.contracts.expr.Expr as exprs;
     ghost use Rattle.pts_tree.specs.contracts.loops.BodyStmt as stmts;
+    ghost use Rattle.pts_lowering.specs.contracts.tasks.LoweredTask as lowered;
 
     ghost Value = { Lists };
 
-    ghost coded = { Prim.hlevel (codes, exprs.the_row.coded, stmts.the_row.coded, tasks.the_row.coded) };
+    ghost coded = { Prim.hlevel (codes, exprs.the_row.coded, stmts.the_row.coded, tasks.the_row.coded, lowered.the_row.coded) };
 
     ghost view = { λ p. p.lists };
 
@@ -96,6 +98,21 @@ impl Program {
         ensures { result.now ≡ self.now.texts }
     {
         self.lists.texts.as_slice()
+    }
+
+    /// The calls and loops in the form in which they run, in text order: the one of number c is that of call c.
+    pub fn lowered_calls(&self) -> &[LoweredCall]
+        ensures { result.now ≡ self.now.lowered_calls }
+    {
+        self.lists.lowered_calls.as_slice()
+    }
+
+    /// The blocks in the form in which they run, in text order, an outer one before those inside: the one of number b is that
+    /// of block b.
+    pub fn lowered_blocks(&self) -> &[LoweredBlock]
+        ensures { result.now ≡ self.now.lowered_blocks }
+    {
+        self.lists.lowered_blocks.as_slice()
     }
 
     /// The points of a call, by its number; none where there is no such call.
