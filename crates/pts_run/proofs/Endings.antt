@@ -41,18 +41,18 @@ leaves_by command bytes whole finish (Ok x) old new is h = (whole, is, h)
 leaves_by command bytes whole finish (Err e) old new is h = tt
 
 ran_by : {T : Type 0} (pool : Pool) (bytes : List ℕ) (made : Lists) (written : Result T WriteEnd) (old new : Option (List ℕ))
-    → Accepts bytes made → OnOk written (WritesRun made (length made.statements) old new)
+    → Accepts bytes made → OnOk written (WritesRun pool made old new)
     → IfOk (finished finishes.Done written) (λ f. (text : List ℕ) × IsOutput (commands.Run pool) bytes (status_of (Ok f)) text × Appends old new text)
 ran_by pool bytes made (Ok x) old new accepts ran = (ran.text, (made, accepts, ran.is_text), ran.appends)
 ran_by pool bytes made (Err e) old new accepts ran = tt
 
 pub run_ends : {T : Type 0} (pool : Pool) (bytes : List ℕ) (script : Script) (made : Lists) (written : Result T WriteEnd) (old new : Option (List ℕ)) → Reads bytes script → IsAccepted script made
-    → OnOk written (WritesRun made (length made.statements) old new) → WritesRunPart made old new → Ends (commands.Run pool) bytes (finished finishes.Done written) old new
+    → OnOk written (WritesRun pool made old new) → WritesRunPart pool made old new → Ends (commands.Run pool) bytes (finished finishes.Done written) old new
 run_ends pool bytes script made written old new reads accepted whole part =
     let accepts : Accepts bytes made = record { script = script; reads = reads; accepted = accepted } in
     record {
       leaves = ran_by pool bytes made written old new accepts whole;
-      part = (part.text, inr (inl (part.whole, (made, part.count, accepts, part.is_text), part.starts)), part.appends);
+      part = (part.text, inr (inl (part.whole, (made, accepts, part.is_text), part.starts)), part.appends);
     }
 
 pub check_ends : {T : Type 0} (bytes : List ℕ) (script : Script) (made : Lists) (written : Result T WriteEnd) (old new : Option (List ℕ)) → Reads bytes script → IsAccepted script made

@@ -1,16 +1,17 @@
 -- One more statement of a run.
-use Rattle.std.proofs.Common.{◌≡◌, ℕ, zero, suc, Option, Some, None, ◌+◌, ◌<◌, Bool, true, false, List, [], ◌∷◌, ◌++◌, length, take, drop, get_or, refl, sym, ap, subst, ◌∙◌, arith, append_assoc, IsSomeAnd}
+use Rattle.std.proofs.Common.{◌≡◌, ℕ, zero, suc, Option, Some, None, ◌+◌, ◌<◌, Bool, true, false, List, [], ◌∷◌, ◌++◌, length, take, drop, get_or, slice_get, refl, sym, ap, subst, ◌∙◌, arith, append-nil, append_assoc, length-append, IsSomeAnd}
 use Rattle.std.specs.Prelude.{cond, find, option_map}
-use Rattle.std.proofs.lemmas.List.{get_or_default, take_more, length-take-le, take-append-drop}
+use Rattle.std.proofs.lemmas.List.{get_or_default, take-append-drop}
+use Rattle.std.proofs.lemmas.Option.{slice_get-get_or}
 use Rattle.std.specs.Io.KnownBytes.{Appends}
 use Rattle.std.proofs.KnownBytes.{Appends-nil, Appends-trans}
 use Rattle.std.proofs.Transfers.{starts_with_of_append}
+use Rattle.pts_boards.specs.declared.pool.Pool.{Pool}
 use Rattle.pts_program.specs.declared.info.StatementInfo.{StatementInfo}
 use Rattle.pts_program.specs.declared.lists.Lists.{Lists}
 use Rattle.pts_eval.specs.declared.work.Work.{Work}
-use Rattle.pts_eval.specs.declared.work.Work.TheVariants as works
 use Rattle.pts_eval.specs.Works.{work_of, is_later, item_of, first_later}
-use Rattle.pts_eval.specs.Runs.{Answer, Reduced, Printed, Store, start_store, Does, Performs, PerformsAll}
+use Rattle.pts_eval.specs.Runs.{Answer, Store, start_store, Does, Performs, Going, Run, Performing, nothing, goes_on, answered}
 use Rattle.pts_run.specs.Output.{IsRunText}
 use Rattle.pts_run.specs.Writing.{WritesRun, WritesRunPart}
 use Rattle.pts_run.specs.Text.{line_of, text_of}
@@ -43,99 +44,115 @@ is_built lists read i d none same within =
     (none_passes (is_later lists) lists.statements i d (none_found (item_of lists) (find (is_later lists) lists.statements) none) (omega (arith, within, ap length same)))
 
 -- what a statement does is what it performs
-pub performs : (lists : Lists) (s : StatementInfo) (o : Option Work) (work : Work) (store : Store) (a : Answer) → o ≡ work_of lists s → o ≡ Some work → Does lists work store a store → Performs lists s store a store
-performs lists s o work store a is known does = subst (λ (p : Option Work). IsSomeAnd p (λ w. Does lists w store a store)) (sym known ∙ is) does
+pub performs : (pool : Pool) (lists : Lists) (s : StatementInfo) (o : Option Work) (work : Work) (store : Store) (a : Answer) → o ≡ work_of lists s → o ≡ Some work → Does lists work store a store
+    → Performs pool lists s store a store
+performs pool lists s o work store a known is does = subst (λ (p : Option Work). IsSomeAnd p (λ w. Does lists w store a store)) (sym is ∙ known) does
 
 -- the same over the store that the run began with
-pub at_start : (lists : Lists) (s : StatementInfo) (store : Store) (a : Answer) → store ≡ start_store lists → Performs lists s store a store → Performs lists s (start_store lists) a (start_store lists)
-at_start lists s store a same h = subst (λ (st : Store). Performs lists s st a st) same h
+pub at_start : (pool : Pool) (lists : Lists) (s : StatementInfo) (store : Store) (a : Answer) → store ≡ start_store lists → Performs pool lists s store a store
+    → Performs pool lists s (start_store lists) a (start_store lists)
+at_start pool lists s store a same h = subst (λ (st : Store). Performs pool lists s st a st) same h
 
 -- ---- statements in order
 
--- no statement changes the store
-keeps_work : (lists : Lists) (work : Work) (before : Store) (a : Answer) (after : Store) → Does lists work before a after → after ≡ before
-keeps_work lists (works.Sum init array low high) before (Reduced value) after h = h.1
-keeps_work lists (works.Sum init array low high) before (Printed name cells) after h = absurd h
-keeps_work lists (works.Print array) before (Reduced value) after h = absurd h
-keeps_work lists (works.Print array) before (Printed name cells) after h = h.2
+module _ (pool : Pool) (lists : Lists) where
+  first : (ss : List StatementInfo) (before : Store) (s : StatementInfo) (a : Answer) (after : Store) → slice_get ss 0 ≡ Some s → Performs pool lists s before a after
+      → Performing pool lists ss before (a ∷ []) after Going
+  first [] before s a after at p = absurd (cc)
+  first (t ∷ ts) before s a after at p = let is : t ≡ s = cc in goes_on after (subst (λ z. Performs pool lists z before a after) (sym is) p) nothing
 
-keeps_known : (lists : Lists) (o : Option Work) (before : Store) (a : Answer) (after : Store) → IsSomeAnd o (λ work. Does lists work before a after) → after ≡ before
-keeps_known lists None before a after h = absurd h
-keeps_known lists (Some work) before a after h = keeps_work lists work before a after h
+  one_more : (ss : List StatementInfo) (before : Store) (answers : List Answer) (between : Store) (s : StatementInfo) (a : Answer) (after : Store)
+      → Performing pool lists ss before answers between Going → slice_get ss (length answers) ≡ Some s → Performs pool lists s between a after
+      → Performing pool lists ss before (answers ++ a ∷ []) after Going
+  one_more ss before _ _ s a after nothing at p = first ss before s a after at p
+  one_more _ _ _ between s a after (goes_on {ss = ss} {rest = rest} mid q h) at p = goes_on mid q (one_more ss mid rest between s a after h at p)
 
-keeps : (lists : Lists) (s : StatementInfo) (before : Store) (a : Answer) (after : Store) → Performs lists s before a after → after ≡ before
-keeps lists s before a after h = keeps_known lists (work_of lists s) before a after h
+-- so many statements have run, and a sink holds their lines; so far no statement changes the store
+pub record Written (pool : Pool) (lists : Lists) (count : ℕ) (old new : Option (List ℕ)) : Type 0 where
+  pub answers : List Answer
+  pub many : length answers ≡ count
+  pub performing : Performing pool lists lists.statements (start_store lists) answers (start_store lists) Going
+  pub appends : Appends old new (text_of answers)
 
-all_keep : (lists : Lists) (ss : List StatementInfo) (before : Store) (answers : List Answer) (after : Store) → PerformsAll lists ss before answers after → after ≡ before
-all_keep lists [] before [] after h = h
-all_keep lists [] before (a ∷ rest) after h = absurd h
-all_keep lists (s ∷ ss) before [] after h = absurd h
-all_keep lists (s ∷ ss) before (a ∷ rest) after h = all_keep lists ss h.0 rest after h.2 ∙ keeps lists s before a h.0 h.1
+abbrev run_by : Lists → List Answer → Run
+run_by lists answers = record { answers = answers; store = start_store lists; state = Going }
 
-length_answers : (lists : Lists) (ss : List StatementInfo) (before : Store) (answers : List Answer) (after : Store) → PerformsAll lists ss before answers after → length answers ≡ length ss
-length_answers lists [] before [] after h = refl
-length_answers lists [] before (a ∷ rest) after h = absurd h
-length_answers lists (s ∷ ss) before [] after h = absurd h
-length_answers lists (s ∷ ss) before (a ∷ rest) after h = ap suc (length_answers lists ss h.0 rest after h.2)
+-- the text of what has run
+abbrev text_so_far : (pool : Pool) (lists : Lists) (answers : List Answer) → Performing pool lists lists.statements (start_store lists) answers (start_store lists) Going
+    → IsRunText pool lists (text_of answers)
+text_so_far pool lists answers h = record { run = run_by lists answers; permitted = h; text_is = refl }
 
-performs_more : (lists : Lists) (ss : List StatementInfo) (s : StatementInfo) (before : Store) (answers : List Answer) (a : Answer) (between after : Store)
-    → PerformsAll lists ss before answers between → Performs lists s between a after → PerformsAll lists (ss ++ s ∷ []) before (answers ++ a ∷ []) after
-performs_more lists [] s before [] a between after h one = (after, subst (λ (store : Store). Performs lists s store a after) h one, refl)
-performs_more lists [] s before (x ∷ rest) a between after h one = absurd h
-performs_more lists (t ∷ ss) s before [] a between after h one = absurd h
-performs_more lists (t ∷ ss) s before (x ∷ rest) a between after h one = (h.0, h.1, performs_more lists ss s h.0 rest a between after h.2 one)
+-- the answers with one more
+more_answers : (pool : Pool) (lists : Lists) (count : ℕ) (s : StatementInfo) (a : Answer) (old new : Option (List ℕ)) → count < length lists.statements → s ≡ get_or lists.statements count s
+    → (w : Written pool lists count old new) → Performs pool lists s (start_store lists) a (start_store lists)
+    → Performing pool lists lists.statements (start_store lists) (w.answers ++ a ∷ []) (start_store lists) Going
+more_answers pool lists count s a old new within is w p =
+    let at : slice_get lists.statements (length w.answers) ≡ Some s = ap (λ n. slice_get lists.statements n) w.many ∙ slice_get-get_or lists.statements count s within ∙ ap Some (sym is) in
+    one_more pool lists lists.statements (start_store lists) w.answers (start_store lists) s a (start_store lists) w.performing at p
 
-text_more : (lists : Lists) (count : ℕ) (text : List ℕ) (s : StatementInfo) (a : Answer) → count < length lists.statements → s ≡ get_or lists.statements count s
-    → IsRunText lists count text → Performs lists s (start_store lists) a (start_store lists) → IsRunText lists (count + 1) (text ++ line_of (count + 1) a)
-text_more lists count text s a within is ran performs =
-    let front = take count lists.statements in
-    let start = start_store lists in
-    let steps = ran.permitted.steps in
-    let same : ran.run.store ≡ start = all_keep lists front start ran.run.answers ran.run.store steps in
-    let many : length ran.run.answers ≡ count = length_answers lists front start ran.run.answers ran.run.store steps ∙ length-take-le count lists.statements (omega arith) in
-    let more : take (count + 1) lists.statements ≡ front ++ s ∷ [] = take_more lists.statements count s within ∙ ap (λ t. front ++ t ∷ []) (sym is) in
-    record {
-      run = record { answers = ran.run.answers ++ a ∷ []; store = start; state = _ };
-      permitted = record {
-        within = omega arith;
-        steps = rw more (performs_more lists front s start ran.run.answers a start start (subst (λ (store : Store). PerformsAll lists front start ran.run.answers store) same steps) performs);
-        state_is = refl;
-      };
-      text_is = ap (λ t. t ++ line_of (count + 1) a) ran.text_is ∙ ap (λ n. text_of ran.run.answers ++ line_of n a) (omega arith) ∙ sym (lines_from-push 1 ran.run.answers a);
-    }
+-- and the text that they are
+more_text : (answers : List Answer) (count : ℕ) (a : Answer) (line : List ℕ) → length answers ≡ count → line ≡ line_of (count + 1) a → text_of answers ++ line ≡ text_of (answers ++ a ∷ [])
+more_text answers count a line many spelled =
+    ap (λ l. text_of answers ++ l) spelled ∙ ap (λ n. text_of answers ++ line_of n a) (omega (arith, many)) ∙ sym (lines_from-push 1 answers a)
 
 -- ---- what a sink holds
 
-pub writes_none : (lists : Lists) (old : Option (List ℕ)) → WritesRun lists 0 old old
-writes_none lists old = record {
+pub written_none : (pool : Pool) (lists : Lists) (old : Option (List ℕ)) → Written pool lists 0 old old
+written_none pool lists old = record { answers = []; many = refl; performing = nothing; appends = Appends-nil old }
+
+pub nothing_written : (pool : Pool) (lists : Lists) (old : Option (List ℕ)) → WritesRunPart pool lists old old
+nothing_written pool lists old = record {
+  whole = [];
+  is_text = record { run = run_by lists []; permitted = nothing; text_is = refl };
   text = [];
-  is_text = record { run = record { answers = []; store = start_store lists; state = _ }; permitted = record { within = omega arith; steps = refl; state_is = refl }; text_is = refl };
+  starts = starts_with_of_append [] [] [] refl;
   appends = Appends-nil old;
 }
 
-pub nothing_written : (lists : Lists) (old : Option (List ℕ)) → WritesRunPart lists old old
-unfolding writes_none
-nothing_written lists old = record { count = 0; whole = []; is_text = (writes_none lists old).is_text; text = []; starts = starts_with_of_append [] [] [] refl; appends = Appends-nil old }
-
-pub writes_more : (lists : Lists) (count : ℕ) (s : StatementInfo) (a : Answer) (line : List ℕ) (old mid new : Option (List ℕ))
+pub written_more : (pool : Pool) (lists : Lists) (count : ℕ) (s : StatementInfo) (a : Answer) (line : List ℕ) (old mid new : Option (List ℕ))
     → count < length lists.statements → s ≡ get_or lists.statements count s → line ≡ line_of (count + 1) a
-    → WritesRun lists count old mid → Performs lists s (start_store lists) a (start_store lists) → Appends mid new line → WritesRun lists (count + 1) old new
-writes_more lists count s a line old mid new within is spelled ran performs more = record {
-  text = ran.text ++ line;
-  is_text = rw spelled (text_more lists count ran.text s a within is ran.is_text performs);
-  appends = Appends-trans old mid new ran.text line ran.appends more;
+    → Written pool lists count old mid → Performs pool lists s (start_store lists) a (start_store lists) → Appends mid new line → Written pool lists (count + 1) old new
+written_more pool lists count s a line old mid new within is spelled w p more =
+    let size = length-append w.answers (a ∷ []) in
+    let many = w.many in
+    record {
+      answers = w.answers ++ a ∷ [];
+      many = omega (arith, size, many);
+      performing = more_answers pool lists count s a old mid within is w p;
+      appends = subst (Appends old new) (more_text w.answers count a line w.many spelled) (Appends-trans old mid new (text_of w.answers) line w.appends more);
+    }
+
+-- where all statements have run, the run is whole
+pub all_written : (pool : Pool) (lists : Lists) (count : ℕ) (old new : Option (List ℕ)) → Written pool lists count old new → count ≡ length lists.statements → WritesRun pool lists old new
+all_written pool lists count old new w all = record {
+  text = text_of w.answers;
+  is_text = record { run = run_by lists w.answers; permitted = w.performing; whole = answered (w.many ∙ all); text_is = refl };
+  appends = w.appends;
+}
+
+-- what was written so far is a part
+pub part_written : (pool : Pool) (lists : Lists) (count : ℕ) (old new : Option (List ℕ)) → Written pool lists count old new → WritesRunPart pool lists old new
+part_written pool lists count old new w = record {
+  whole = text_of w.answers;
+  is_text = text_so_far pool lists w.answers w.performing;
+  text = text_of w.answers;
+  starts = starts_with_of_append (text_of w.answers) (text_of w.answers) [] (sym (append-nil (text_of w.answers)));
+  appends = w.appends;
 }
 
 -- a line of which a front was written
-pub part_of_line : (lists : Lists) (count n : ℕ) (s : StatementInfo) (a : Answer) (line : List ℕ) (old mid new : Option (List ℕ))
+pub part_of_line : (pool : Pool) (lists : Lists) (count n : ℕ) (s : StatementInfo) (a : Answer) (line : List ℕ) (old mid new : Option (List ℕ))
     → count < length lists.statements → s ≡ get_or lists.statements count s → line ≡ line_of (count + 1) a
-    → WritesRun lists count old mid → Performs lists s (start_store lists) a (start_store lists) → Appends mid new (take n line) → WritesRunPart lists old new
-part_of_line lists count n s a line old mid new within is spelled ran performs more = record {
-  count = count + 1;
-  whole = ran.text ++ line;
-  is_text = rw spelled (text_more lists count ran.text s a within is ran.is_text performs);
-  text = ran.text ++ take n line;
-  starts = starts_with_of_append (ran.text ++ line) (ran.text ++ take n line) (drop n line)
-      (ap (λ t. ran.text ++ t) (sym (take-append-drop n line)) ∙ sym (append_assoc ran.text (take n line) (drop n line)));
-  appends = Appends-trans old mid new ran.text (take n line) ran.appends more;
+    → Written pool lists count old mid → Performs pool lists s (start_store lists) a (start_store lists) → Appends mid new (take n line) → WritesRunPart pool lists old new
+part_of_line pool lists count n s a line old mid new within is spelled w p more = record {
+  whole = text_of w.answers ++ line;
+  is_text = record {
+    run = run_by lists (w.answers ++ a ∷ []);
+    permitted = more_answers pool lists count s a old mid within is w p;
+    text_is = more_text w.answers count a line w.many spelled;
+  };
+  text = text_of w.answers ++ take n line;
+  starts = starts_with_of_append (text_of w.answers ++ line) (text_of w.answers ++ take n line) (drop n line)
+      (ap (λ t. text_of w.answers ++ t) (sym (take-append-drop n line)) ∙ sym (append_assoc (text_of w.answers) (take n line) (drop n line)));
+  appends = Appends-trans old mid new (text_of w.answers) (take n line) w.appends more;
 }

@@ -7,7 +7,8 @@ use Rattle.pts_syntax.specs.Syntax.{IsParsed, Explains}
 use Rattle.pts_syntax.specs.declared.reading.SyntaxFault.{SyntaxFault}
 use Rattle.pts_syntax.specs.declared.reading.SyntaxKind.TheVariants as fault_kinds
 use Rattle.pts_program.specs.declared.lists.Lists.{Lists}
-use Rattle.pts_eval.specs.Runs.{Run, PermittedRun}
+use Rattle.pts_boards.specs.declared.pool.Pool.{Pool}
+use Rattle.pts_eval.specs.Runs.{Run, PermittedRun, IsWhole}
 use Rattle.pts_run.specs.declared.status.Status.{Status}
 use Rattle.pts_run.specs.declared.status.Status.TheVariants as status
 use Rattle.pts_run.specs.declared.refusal.Refusal.{Refusal}
@@ -64,21 +65,28 @@ Takes commands.Print bytes = (script : Script) × Reads bytes script
 
 -- ---- texts
 
--- the text of a permitted run of the program's first `count` statements
-pub record IsRunText (lists : Lists) (count : ℕ) (text : List ℕ) : Type 0 where
+-- the text of a permitted run of the program
+pub record IsRunText (pool : Pool) (lists : Lists) (text : List ℕ) : Type 0 where
   pub run : Run
-  pub permitted : PermittedRun lists count run
+  pub permitted : PermittedRun pool lists run
+  pub text_is : text ≡ text_of run.answers
+
+-- the same of a run to which nothing can be added
+pub record IsWholeRunText (pool : Pool) (lists : Lists) (text : List ℕ) : Type 0 where
+  pub run : Run
+  pub permitted : PermittedRun pool lists run
+  pub whole : IsWhole lists run
   pub text_is : text ≡ text_of run.answers
 
 -- the whole text that the command gives for bytes that it takes
 abbrev pub IsWholeText : Command → List ℕ → List ℕ → Type 0
-IsWholeText (commands.Run pool) bytes text = (made : Lists) × Accepts bytes made × IsRunText made (length made.statements) text
+IsWholeText (commands.Run pool) bytes text = (made : Lists) × Accepts bytes made × IsWholeRunText pool made text
 IsWholeText commands.Check bytes text = (made : Lists) × Accepts bytes made × (text ≡ accepted_line)
 IsWholeText commands.Print bytes text = (script : Script) × Reads bytes script × (text ≡ canonical script)
 
--- the same, or under `run` the text of a run of some first statements
+-- the same, or under `run` the text of a run to which more can be added
 abbrev pub IsFrontText : Command → List ℕ → List ℕ → Type 0
-IsFrontText (commands.Run pool) bytes text = (made : Lists) × (count : ℕ) × Accepts bytes made × IsRunText made count text
+IsFrontText (commands.Run pool) bytes text = (made : Lists) × Accepts bytes made × IsRunText pool made text
 IsFrontText commands.Check bytes text = IsWholeText commands.Check bytes text
 IsFrontText commands.Print bytes text = IsWholeText commands.Print bytes text
 

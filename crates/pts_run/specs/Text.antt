@@ -8,7 +8,7 @@ use Rattle.pts_types.specs.declared.value.Value.{Value}
 use Rattle.pts_types.specs.declared.value.Value.TheVariants as values
 use Rattle.pts_syntax.specs.KindNames.{kind_name}
 use Rattle.pts_program.specs.RuleNames.{item_of, position_of, rule_name}
-use Rattle.pts_eval.specs.Runs.{Answer, Reduced, Printed}
+use Rattle.pts_eval.specs.Runs.{Answer, Reduced, Printed, Terminated}
 
 abbrev pub line_feed : List ℕ
 line_feed = 10 ∷ []
@@ -26,8 +26,9 @@ spaced cells = flat_map (λ cell. codes " " ++ value_text cell) cells
 
 -- the line of a statement, which is named by its number among the statements from 1 on
 abbrev pub line_of : ℕ → Answer → List ℕ
-line_of number (Reduced value) = decimal number ++ codes ": reduce " ++ decimal value ++ line_feed
+line_of number (Reduced value) = decimal number ++ codes ": reduce " ++ value_text value ++ line_feed
 line_of number (Printed name cells) = decimal number ++ codes ": print " ++ name ++ spaced cells ++ line_feed
+line_of number Terminated = decimal number ++ codes ": terminated" ++ line_feed
 
 -- the lines of answers, of which the first has this number
 abbrev pub lines_from : ℕ → List Answer → List ℕ

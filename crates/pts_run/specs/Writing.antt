@@ -3,6 +3,7 @@ use Rattle.std.specs.Prelude.{◌≡◌, ℕ, ◌≤◌, List, Option, Result, O
 use Rattle.std.specs.Io.{StartsWith}
 use Rattle.std.specs.Io.KnownBytes.{Appends}
 use Rattle.pts_io.specs.Streams.{HasRisen}
+use Rattle.pts_boards.specs.declared.pool.Pool.{Pool}
 use Rattle.pts_program.specs.declared.lists.Lists.{Lists}
 use Rattle.pts_run.specs.declared.answer.Finish.{Finish}
 use Rattle.pts_run.specs.declared.answer.Finish.TheVariants as finishes
@@ -11,7 +12,7 @@ use Rattle.pts_run.specs.declared.run.WriteEnd.TheVariants as ends
 use Rattle.pts_run.specs.declared.status.Status.{Status}
 use Rattle.pts_run.specs.declared.status.Status.TheVariants as status
 use Rattle.pts_run.specs.declared.words.Command.{Command}
-use Rattle.pts_run.specs.Output.{IsRunText, IsOutput, IsPartialOutput}
+use Rattle.pts_run.specs.Output.{IsRunText, IsWholeRunText, IsOutput, IsPartialOutput}
 
 -- the count of a sink's failures does not fall, and rose where the writing failed
 pub record IsCounted {T : Type 0} (written : Result T WriteEnd) (before after : ℕ) : Type 0 where
@@ -23,17 +24,16 @@ pub record WritesText {T : Type 0} (whole_text : List ℕ) (written : Result T W
   pub whole : OnOk written (Appends old new whole_text)
   pub part : (text : List ℕ) × StartsWith whole_text text × Appends old new text
 
--- what a sink holds grew by the text of a permitted run of the program's first `count` statements
-pub record WritesRun (lists : Lists) (count : ℕ) (old new : Option (List ℕ)) : Type 0 where
+-- what a sink holds grew by the text of a permitted run of the program to which nothing can be added
+pub record WritesRun (pool : Pool) (lists : Lists) (old new : Option (List ℕ)) : Type 0 where
   pub text : List ℕ
-  pub is_text : IsRunText lists count text
+  pub is_text : IsWholeRunText pool lists text
   pub appends : Appends old new text
 
--- what a sink holds grew by a front of the text of a permitted run of some first statements
-pub record WritesRunPart (lists : Lists) (old new : Option (List ℕ)) : Type 0 where
-  pub count : ℕ
+-- what a sink holds grew by a front of the text of a permitted run
+pub record WritesRunPart (pool : Pool) (lists : Lists) (old new : Option (List ℕ)) : Type 0 where
   pub whole : List ℕ
-  pub is_text : IsRunText lists count whole
+  pub is_text : IsRunText pool lists whole
   pub text : List ℕ
   pub starts : StartsWith whole text
   pub appends : Appends old new text

@@ -3,7 +3,6 @@
 ghost use Rattle.std.specs.Prelude.{◌≡◌, ◌≢◌, ℕ, List, Ok};
 ghost use Rattle.pts_syntax.specs.Syntax.{IsSpelled};
 ghost use Rattle.pts_run.specs.Output.{Reads, Refuses};
-ghost use Rattle.pts_boards.specs.declared.pool.Pool.{Pool as PoolOf};
 ghost use Rattle.pts_run.specs.declared.accept.Rejection.TheVariants as rejections;
 ghost use Rattle.pts_run.specs.declared.words.Command.TheVariants as commands;
 ghost use Rattle.pts_run.specs.declared.refusal.Refusal.{Refusal as Reason};
@@ -14,6 +13,7 @@ use crate::accept::{Rejection, accept};
 use crate::refusal::Refusal;
 use crate::run::{WriteEnd, run_program, write_accepted, write_canonical, write_refusal};
 use crate::words::Command;
+use pts_boards::Pool;
 use pts_io::Sink;
 use pts_tree::Script;
 use std::alloc::Global;
@@ -39,19 +39,24 @@ pub fn answer<K: Sink>(
     ensures counted { IsCounted result (K.faults sink.old) (K.faults sink.new) }
 {
     match command {
-        Command::Run { .. } => run_script(alloc, script, sink),
+        Command::Run { pool } => run_script(alloc, pool, script, sink),
         Command::Check => check_script(alloc, script, sink),
         Command::Print => print_script(alloc, script, sink),
     }
 }
 
-fn run_script<K: Sink>(alloc: Global, script: &Script, sink: &mut K) -> Result<Finish, WriteEnd>
+fn run_script<K: Sink>(
+    alloc: Global,
+    pool: Pool,
+    script: &Script,
+    sink: &mut K,
+) -> Result<Finish, WriteEnd>
     requires { IsSpelled script.now }
-    ensures ends { (pool : PoolOf) (bytes : List ℕ) → Reads bytes script.now → Ends (commands.Run pool) bytes result (K.written sink.old) (K.written sink.new) }
+    ensures ends { (bytes : List ℕ) → Reads bytes script.now → Ends (commands.Run pool) bytes result (K.written sink.old) (K.written sink.new) }
     ensures counted { IsCounted result (K.faults sink.old) (K.faults sink.new) }
 {
     match accept(alloc, script) {
-        Ok(program) => finished(Finish::Done, run_program(alloc, &program, sink)),
+        Ok(program) => finished(Finish::Done, run_program(alloc, pool, &program, sink)),
         Err(rejection) => reject(alloc, rejection, sink),
     }
 }

@@ -14,12 +14,12 @@ use std::alloc::AllocError;
 
 /// Puts the line of a sum behind what the text holds.
 #[tactic(auto, using(std::proofs::lemmas::List::append_assoc))]
-pub fn push_reduced(text: &mut Vec<u8>, number: usize, value: u64) -> Result<(), AllocError>
+pub fn push_reduced(text: &mut Vec<u8>, number: usize, value: Value) -> Result<(), AllocError>
     ensures { OnOk result (text.new.items ≡ text.old.items ++ line_of number (Reduced value)) }
 {
     push_number(text, number)?;
     text.extend_from_slice(b": reduce ")?;
-    push_number(text, value)?;
+    push_value(text, value)?;
     text.extend_from_slice(b"\n")
 }
 

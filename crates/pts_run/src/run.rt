@@ -1,6 +1,6 @@
 //! Running the statements of a program in order, and writing each one's line.
 
-ghost use Rattle.std.specs.Prelude.{◌≡◌, ◌++◌, false, length, None, OnOk};
+ghost use Rattle.std.specs.Prelude.{◌≡◌, ◌++◌, false, None, OnOk};
 ghost use Rattle.pts_print.specs.Canonical.{canonical};
 ghost use Rattle.pts_eval.specs.Runs.{Answer, Performs, name_at};
 ghost use Rattle.pts_eval.specs.Works.{first_later, is_later};
@@ -12,11 +12,12 @@ use crate::lines::{push_printed, push_reduced, push_refusal};
 use crate::refusal::Refusal;
 use crate::sums::sum_between;
 use pts_eval::{Store, Work, work_of};
+use pts_boards::Pool;
 use pts_io::{Sink, SinkFault, write_all};
 use pts_program::{Program, StatementInfo};
 use pts_syntax::print;
 use pts_tree::Script;
-use pts_types::NoMemory;
+use pts_types::{NoMemory, Value};
 use std::alloc::{AllocError, Global};
 
 /// Why not all was written.
@@ -52,17 +53,22 @@ impl From<SinkFault> for WriteEnd {
 
 /// Runs the statements in order, all of which are built. Each one's line is written once it has ended.
 #[tactic(auto, using(crate::proofs::Runs::is_built))]
-pub fn run_program<K: Sink>(alloc: Global, program: &Program, sink: &mut K) -> Result<(), WriteEnd>
+pub fn run_program<K: Sink>(
+    alloc: Global,
+    pool: Pool,
+    program: &Program,
+    sink: &mut K,
+) -> Result<(), WriteEnd>
     requires { first_later program.now ≡ None }
-    ensures whole { OnOk result (WritesRun program.now (length program.now.statements) (K.written sink.old) (K.written sink.new)) }
-    ensures part { WritesRunPart program.now (K.written sink.old) (K.written sink.new) }
+    ensures whole { OnOk result (WritesRun pool program.now (K.written sink.old) (K.written sink.new)) }
+    ensures part { WritesRunPart pool program.now (K.written sink.old) (K.written sink.new) }
     ensures counted { IsCounted result (K.faults sink.old) (K.faults sink.new) }
 {
     let store = Store::start(alloc, program)?;
     let mut line = Vec::new(alloc);
     for (place, statement) in program.statements().iter().enumerate() {
         line.clear();
-        push_line(&mut line, program, &store, place + 1, *statement)?;
+        push_line(&mut line, pool, program, &store, place + 1, *statement)?;
         write_all(sink, &line)?;
     }
     Ok(())
@@ -105,27 +111,21 @@ pub fn write_canonical<K: Sink>(
 // Performs a statement that is built, and puts its line behind what the text holds.
 fn push_line(
     text: &mut Vec<u8>,
+    pool: Pool,
     program: &Program,
     store: &Store,
     number: usize,
     statement: StatementInfo,
 ) -> Result<(), AllocError>
     requires { is_later program.now statement ≡ false }
-    ensures { OnOk result ((answer : Answer) × Performs program.now statement store.now answer store.now × (text.new.items ≡ text.old.items ++ line_of number answer)) }
+    ensures { OnOk result ((answer : Answer) × Performs pool program.now statement store.now answer store.now × (text.new.items ≡ text.old.items ++ line_of number answer)) }
 {
     match work_of(program, statement) {
-        Some(
-            Work::Sum {
-                init,
-                array,
-                low,
-                high,
-            },
-        ) => push_reduced(
-            text,
-            number,
-            sum_between(init, store.cells(array), low, high),
-        ),
+        Some(Work::Sum(init, range)) => {
+            let cells = store.cells(range.array);
+            let sum = sum_between(init, cells, range.low, range.high);
+            push_reduced(text, number, Value::U64(sum))
+        }
         Some(Work::Print(array)) => {
             push_printed(text, number, name_of(program, array), store.cells(array))
         }

@@ -8,13 +8,13 @@ use pts_types::{ScalarOp, Value, apply};
 
 /// The left fold of `plus` over `init` and the cells from `low` on and before `high`.
 #[tactic(auto, using(crate::proofs::Clips::clipped))]
-pub fn sum_between(init: u64, cells: &[Value], low: u64, high: u64) -> u64
+pub fn sum_between(init: u64, cells: &[Value], low: u32, high: u32) -> u64
     ensures { result ≡ spec.sum_of init (map spec.number_of (slice_range cells.now low high)) }
 {
-    let len = cells.len() as u64;
-    let start = low.min(len);
-    let end = high.min(len).max(start);
-    sum_of(init, &cells[start as usize..end as usize])
+    let len = cells.len();
+    let start = (low as usize).min(len);
+    let end = (high as usize).min(len).max(start);
+    sum_of(init, &cells[start..end])
 }
 
 fn sum_of(init: u64, cells: &[Value]) -> u64

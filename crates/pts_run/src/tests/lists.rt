@@ -2,6 +2,7 @@
 
 use super::built;
 use pts_eval::{Store, Work, later, work_of};
+use pts_lowering::CellRange;
 use pts_program::{Program, StatementInfo};
 use pts_types::Value;
 use std::alloc::{AllocError, Global};
@@ -177,12 +178,12 @@ fn statements_that_are_built_have_work(rt: HostRuntime) -> Result<(), Fail> {
         reduce seq a[0..1] init 3 plus; reduce par b[0..1] init 3 plus; reduce seq b[0..1] init 3 min; \
         reduce seq b[0..1] init 3 plus into b[0]; task_block { }";
     let program = built(rt.alloc(), "const N = 5; ", items)?;
-    let sum = Work::Sum {
-        init: 3,
+    let range = CellRange {
         array: 1,
         low: 2,
         high: 5,
     };
+    let sum = Work::Sum(3, range);
     let table = [
         (StatementInfo::Print(1), Some(Work::Print(1))),
         (StatementInfo::Call(0), Some(sum)),

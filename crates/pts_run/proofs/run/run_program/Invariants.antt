@@ -1,9 +1,9 @@
 use Rattle.std.proofs.Common.{◌≤◌}
-use Rattle.pts_run.specs.Writing.{WritesRun}
+use Rattle.pts_run.proofs.Runs.{Written}
 use Rattle.pts_run.proofs.run.run_program.Given as goal
 
 abbrev pub invariant-loop-place : goal.invariant-loop-place
 invariant-loop-place g l = record {
-  ran : WritesRun l.program l.place (g.K.Sink.written l.fn.sink) (g.K.Sink.written l.sink);
+  ran : Written l.pool l.program l.place (g.K.Sink.written l.fn.sink) (g.K.Sink.written l.sink);
   counts : g.K.Sink.faults l.fn.sink ≤ g.K.Sink.faults l.sink;
 }
