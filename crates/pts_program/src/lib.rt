@@ -10,6 +10,8 @@ mod lengths;
 mod lists;
 mod program;
 mod standing;
+#[cfg(test)]
+mod tests;
 
 pub use builder::build;
 pub use fault::BuildFault;
