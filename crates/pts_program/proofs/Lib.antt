@@ -1,6 +1,5 @@
 pub mod CellKinds
 pub mod Callings
-pub mod Clips
 pub mod Decisions
 pub mod FirstFaults
 pub mod FunctionNumbers

@@ -1,6 +1,6 @@
 -- The lists of a script, in text order: arrays, functions, statements, calls, points, blocks, texts, and calls and blocks in the
 -- form in which they run.
-use Rattle.std.specs.Prelude.{◌≡◌, ℕ, ◌+◌, List, [], ◌∷◌, ◌++◌, length, map, take, drop, slice_get, None, Some}
+use Rattle.std.specs.Prelude.{◌≡◌, ℕ, ◌+◌, List, [], ◌∷◌, ◌++◌, length}
 use Rattle.pts_tree.specs.declared.script.Item.{Item}
 use Rattle.pts_tree.specs.declared.script.Item.TheVariants as items
 use Rattle.pts_tree.specs.declared.script.Script.{Script}
@@ -42,13 +42,9 @@ statements_of scope calls blocks (items.Block x) = statement_infos.Block blocks 
 statements_of scope calls blocks (items.Print x) = statement_infos.Print (array_at scope x) ∷ []
 statements_of scope calls blocks x = []
 
--- how many points stand before those of a call, where this many are those of earlier items
-abbrev pub start_of : ℕ → CallInfo → ℕ
-start_of earlier call = earlier + call.first_point
-
 -- no items
 abbrev pub no_lists : Lists
-no_lists = record { arrays = []; functions = []; statements = []; calls = []; points = []; blocks = []; texts = []; lowered_calls = []; lowered_blocks = []; call_starts = [] }
+no_lists = record { arrays = []; functions = []; statements = []; calls = []; points = []; blocks = []; texts = []; lowered_calls = []; lowered_blocks = [] }
 
 -- item n more, in the scope that the items before it leave
 abbrev pub with_item : Scope → ℕ → Lists → Item → Lists
@@ -64,7 +60,6 @@ with_item scope n lists x =
       texts = lists.texts ++ texts_of scope x;
       lowered_calls = lists.lowered_calls ++ lowered_calls scope x;
       lowered_blocks = lists.lowered_blocks ++ lowered_blocks n calls (length lists.blocks) x;
-      call_starts = lists.call_starts ++ map (start_of (length lists.points)) (calls_of scope n calls x);
     }
 
 -- items behind those before them
@@ -75,14 +70,6 @@ with_items before lists (x ∷ rest) = with_items (before ++ x ∷ []) (with_ite
 -- the lists of a script
 abbrev pub lists_of : Script → Lists
 lists_of script = with_items [] no_lists script.items
-
--- the points of a call; none where there is no such call
-abbrev pub points_of_call : Lists → ℕ → List PointInfo
-points_of_call lists call =
-    elim (slice_get lists.call_starts call) [
-      | None ↦ []
-      | Some start ↦ elim (slice_get lists.calls call) [ None ↦ [] | Some info ↦ take info.points (drop start lists.points) ]
-    ]
 
 -- the lists of a script that the grammar spells and that breaks no rule
 pub record IsProgram (lists : Lists) : Type 0 where

@@ -39,8 +39,6 @@ pub struct Lists {
     pub texts: Items<CallText>,
     pub lowered_calls: Items<LoweredCall>,
     pub lowered_blocks: Items<LoweredBlock>,
-    /// How many points, of all items, stand before those of each call.
-    pub call_starts: Items<u32>,
 }
 
 impl Lists {
@@ -58,7 +56,6 @@ impl Lists {
             texts: Items::new(alloc),
             lowered_calls: Items::new(alloc),
             lowered_blocks: Items::new(alloc),
-            call_starts: Items::new(alloc),
         }
     }
 }
@@ -200,21 +197,6 @@ fn add_names(alloc: Global, scope: &Scope, item: &Item, lists: &mut Lists) -> Re
     add_function(alloc, scope, item, &mut lists.functions)
 }
 
-// The starts of calls of one item, before whose points this many stand.
-fn add_starts(before: usize, calls: &[CallInfo], starts: &mut Items<u32>) -> Result<(), NoMemory>
-    ensures { OnOk result (starts.new ≡ starts.old ++ map (spec.start_of before) calls.now) }
-{
-    for call in calls {
-        let start = entries(
-            before
-                .checked_add(call.first_point as usize)
-                .ok_or(NoMemory)?,
-        )?;
-        starts.push(start)?;
-    }
-    Ok(())
-}
-
 fn add_item_points(
     alloc: Global,
     scope: &Scope,
@@ -226,16 +208,10 @@ fn add_item_points(
     ensures { OnOk result (lists.new ≡ record lists.old {
       points = lists.old.points ++ points.points_of scope.now number (length lists.old.calls) item.now;
       calls = lists.old.calls ++ points.calls_of scope.now number (length lists.old.calls) item.now;
-      call_starts = lists.old.call_starts ++ map (spec.start_of (length lists.old.points)) (points.calls_of scope.now number (length lists.old.calls) item.now);
     }) }
 {
     let calls = entries(lists.calls.len())?;
     let new = item_points(alloc, scope, number, calls, item)?;
-    add_starts(
-        lists.points.len(),
-        new.calls.as_slice(),
-        &mut lists.call_starts,
-    )?;
     lists.points.append(new.points)?;
     lists.calls.append(new.calls)?;
     Ok(())

@@ -1,6 +1,6 @@
 //! Checked programs.
 
-ghost use Rattle.std.specs.Prelude.{◌≡◌, ◌<◌, Some, length, slice_get, take, drop};
+ghost use Rattle.std.specs.Prelude.{◌≡◌, ◌<◌, Some, length, slice_get};
 ghost use Rattle.pts_program.specs.Lists as spec;
 
 use crate::info::{ArrayInfo, StatementInfo};
@@ -115,17 +115,6 @@ impl Program {
         self.lists.lowered_blocks.as_slice()
     }
 
-    /// The points of a call, by its number; none where there is no such call.
-    pub fn points_of_call(&self, call: u32) -> &[PointInfo]
-        ensures { result.now ≡ spec.points_of_call self.now call }
-    {
-        let call = call as usize;
-        match (self.lists.call_starts.get(call), self.lists.calls.get(call)) {
-            (Some(start), Some(info)) => points_from(self.points(), *start, info.points),
-            _ => &[],
-        }
-    }
-
     /// The text of a call or loop that exists. Its names are those of the lists or local ones, and no constant is left.
     pub fn call_text(&self, call: u32) -> &CallText
         requires { call < length self.now.texts }
@@ -133,14 +122,4 @@ impl Program {
     {
         &self.lists.texts.as_slice()[call as usize]
     }
-}
-
-// So many points behind the first ones, or all that there are.
-#[tactic(auto, using(crate::proofs::Clips::clipped))]
-fn points_from(points: &[PointInfo], start: u32, count: u32) -> &[PointInfo]
-    ensures { result.now ≡ take count (drop start points.now) }
-{
-    let low = (start as usize).min(points.len());
-    let high = (start as usize + count as usize).min(points.len());
-    &points[low..high]
 }

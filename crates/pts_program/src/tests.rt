@@ -42,9 +42,9 @@ const LOOP_FORMS: [&str; 2] = [
 ];
 
 const BLOCK_FORMS: [&str; 3] = [
-    "LoweredBlock { item: 5, body: Items { items: [Call(1), Assign(AssignPoints { first: 1, write: 3 }), Run(Items { items: [Throw(7), Block(1)] })] } }",
-    "LoweredBlock { item: 5, body: Items { items: [Assign(AssignPoints { first: 4, write: 4 })] } }",
-    "LoweredBlock { item: 6, body: Items { items: [Wait] } }",
+    "LoweredBlock { item: 6, body: Items { items: [Call(1), Assign(AssignPoints { first: 1, write: 3 }), Run(Items { items: [Throw(7), Block(1)] })] } }",
+    "LoweredBlock { item: 6, body: Items { items: [Assign(AssignPoints { first: 4, write: 4 })] } }",
+    "LoweredBlock { item: 7, body: Items { items: [Wait] } }",
 ];
 
 fn program_of(alloc: Global, text: &str) -> Option<Program> {
