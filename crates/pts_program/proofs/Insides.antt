@@ -100,7 +100,7 @@ known_place scope x h = by_value (sum_value scope x.length) h
 same_length : (n : ℕ) (z : ℤ) → not (int_eq (pos n) z) ≡ false → pos n ≡ z
 same_length n z h = grind (arith, ints, h)
 
-start_length : (scope : Scope) (x : ArrayDecl) → IsTrue (sum_is scope is_place x.length) → list_differs scope x x.start ≡ false
+pub start_length : (scope : Scope) (x : ArrayDecl) → IsTrue (sum_is scope is_place x.length) → list_differs scope x x.start ≡ false
     → pos (length (start_cells scope x.kind (natural (number scope x.length)) x.start)) ≡ number scope x.length
 start_length scope x place whole = by_start x.start whole
   where

@@ -4,9 +4,14 @@ pub mod Clips
 pub mod Decisions
 pub mod FirstFaults
 pub mod Insides
+pub mod ItemTurns
 pub mod Keeping
+pub mod KeptKinds
+pub mod KeptOperators
+pub mod NamesApart
 pub mod SoundFunctions
 pub mod SoundStatements
+pub mod TypedBodies
 pub mod UseForms
 pub mod Declared
 pub mod Findings

@@ -15,8 +15,8 @@ pub use builder::build;
 pub use fault::BuildFault;
 pub use info::{ArrayInfo, StatementInfo};
 pub use laws::{
-    a_fault_or_none, every_cell_has_its_kind, every_index_in_range, functions_call_earlier_ones,
-    one_fault,
+    a_fault_or_none, every_cell_has_its_kind, every_function_gives_its_kind, every_index_in_range,
+    functions_call_earlier_ones, functions_have_typed_bodies, one_fault,
 };
 pub use program::Program;
 pub use pts_code::FunctionInfo;
