@@ -16,3 +16,15 @@ pub mod UseForms
 pub mod Declared
 pub mod Findings
 pub mod Ways
+pub mod Allowed
+pub mod BodyForms
+pub mod ExactSums
+pub mod KeptBodies
+pub mod KeptCalls
+pub mod RightTexts
+pub mod Shown
+pub mod Replaced
+pub mod PlainTexts
+pub mod MatchedCalls
+pub mod Numbered
+pub mod HeldTexts

@@ -9,6 +9,7 @@ mod laws;
 mod lengths;
 mod lists;
 mod program;
+mod promises;
 mod standing;
 
 pub use builder::build;
@@ -19,6 +20,11 @@ pub use laws::{
     functions_call_earlier_ones, functions_have_typed_bodies, one_fault,
 };
 pub use program::Program;
+pub use promises::{
+    each_call_has_its_text, every_range_lies_in_its_array, every_sum_is_one_number,
+    every_text_keeps_the_rules_of_kinds, names_of_arrays_and_functions_differ,
+    statements_have_their_numbers,
+};
 pub use pts_code::FunctionInfo;
 pub use pts_constants::{BlockInfo, CallText};
 pub use pts_points::{Branch, CallInfo, PointForm, PointInfo};
