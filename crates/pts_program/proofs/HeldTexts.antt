@@ -273,14 +273,14 @@ record AreHeld (before : List Item) (lists : Lists) : Type 0 where
   pub texts : Each (HoldsText lists.arrays) lists.texts
 
 held_turn : IsTurn AreHeld
-held_turn before x lists keeps allowed h = record {
-  shown = shown_turn before x lists keeps allowed h.shown;
+held_turn before x lists keeps written h = record {
+  shown = shown_turn before x lists keeps written h.shown;
   texts =
       let more = arrays_of (known before) x in
       let all = lists.texts ++ texts_of (known before) x in
       each.weaker (HoldsText lists.arrays) (HoldsText (lists.arrays ++ more)) (text_stays lists.arrays more) all
       (each.both (HoldsText lists.arrays) lists.texts (texts_of (known before) x) h.texts
-      (texts_held (known before) lists.arrays h.shown.arrays_shown (statements x) (item_ready before x keeps allowed)));
+      (texts_held (known before) lists.arrays h.shown.arrays_shown (statements x) (item_ready before x keeps written.allowed)));
 }
 
 nothing_held : AreHeld [] no_lists

@@ -28,3 +28,6 @@ pub mod PlainTexts
 pub mod MatchedCalls
 pub mod Numbered
 pub mod HeldTexts
+pub mod BlockBodies
+pub mod CountedBodies
+pub mod ExactTexts

@@ -81,7 +81,7 @@ record AreMatched (before : List Item) (lists : Lists) : Type 0 where
   pub starts : length lists.call_starts ≡ length lists.calls
 
 matched_turn : IsTurn AreMatched
-matched_turn before x lists keeps allowed h =
+matched_turn before x lists keeps written h =
     let scope = known before in
     let item = length before + 1 in
     let new : List CallInfo = calls_of scope item (length lists.calls) x in
@@ -90,7 +90,7 @@ matched_turn before x lists keeps allowed h =
     let count = length-append lists.calls new in
     let old = h.starts in
     record {
-      texts = behind scope lists.texts (texts_of scope x) lists.calls new h.texts (all_matched scope item 0 (statements x) (item_ready before x keeps allowed));
+      texts = behind scope lists.texts (texts_of scope x) lists.calls new h.texts (all_matched scope item 0 (statements x) (item_ready before x keeps written.allowed));
       starts = omega (arith, size, same, count, old);
     }
 

@@ -99,7 +99,7 @@ new_numbered before (items.Print x) lists keeps sizes =
     (omega (arith, within, count, same, all), tt)
 
 numbered_turn : IsTurn AreNumbered
-numbered_turn before x lists keeps allowed h = record {
+numbered_turn before x lists keeps written h = record {
   sizes = sizes_more before x lists.arrays keeps h.sizes ∙ ap lengths (sym (known_more before x));
   statements =
       let next : Lists = with_item (known before) (length before + 1) lists x in

@@ -87,7 +87,7 @@ record ArePlain (before : List Item) (lists : Lists) : Type 0 where
   pub blocks : Each IsPlainBlock lists.blocks
 
 plain_turn : IsTurn ArePlain
-plain_turn before x lists keeps allowed h = record {
+plain_turn before x lists keeps written h = record {
   texts = each.both IsPlainText lists.texts (texts_of (known before) x) h.texts (texts_plain (known before) (statements x));
   blocks = each.both IsPlainBlock lists.blocks (map (info (known before) (length before + 1)) (item_blocks x)) h.blocks (blocks_plain (known before) (length before + 1) (item_blocks x));
 }

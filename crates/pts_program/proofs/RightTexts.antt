@@ -102,13 +102,13 @@ record AreRight (before : List Item) (lists : Lists) : Type 0 where
   pub texts : (names : Scope) → Agrees (known before) names → Each (IsRight names) lists.texts
 
 right_turn : IsTurn AreRight
-right_turn before x lists keeps allowed h = record {
-  shown = shown_turn before x lists keeps allowed h.shown;
+right_turn before x lists keeps written h = record {
+  shown = shown_turn before x lists keeps written h.shown;
   texts = λ names agrees.
       let scope = known before in
       let earlier = agrees_before scope (after scope x) names (kept_behind before x keeps) (subst (λ sc. Agrees sc names) (known_more before x) agrees) in
       each.both (IsRight names) lists.texts (texts_of scope x) (h.texts names earlier)
-      (texts_right scope names earlier (outside scope names h.shown.no_values h.shown.no_views earlier) (statements x) (item_ready before x keeps allowed));
+      (texts_right scope names earlier (outside scope names h.shown.no_values h.shown.no_views earlier) (statements x) (item_ready before x keeps written.allowed));
 }
 
 nothing_right : AreRight [] no_lists

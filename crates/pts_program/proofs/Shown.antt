@@ -319,7 +319,7 @@ shown_after before (items.Block x) arrays functions keeps h = none_shown (known 
 shown_after before (items.Print x) arrays functions keeps h = none_shown (known before) arrays functions h
 
 pub shown_turn : IsTurn Shows
-shown_turn before x lists keeps allowed h =
+shown_turn before x lists keeps written h =
     subst (λ scope. AreShown scope (lists.arrays ++ arrays_of (known before) x) (lists.functions ++ functions_of (known before) x)) (sym (known_more before x))
     (shown_after before x lists.arrays lists.functions keeps h)
 

@@ -174,8 +174,8 @@ abbrev Typed : List Item → Lists → Type 0
 Typed before lists = AreTyped (known before) lists.functions
 
 typed_turn : IsTurn Typed
-typed_turn before x lists keeps allowed h =
-    subst (λ scope. AreTyped scope (lists.functions ++ functions_of (known before) x)) (sym (known_more before x)) (typed_after before x lists.functions keeps allowed h)
+typed_turn before x lists keeps written h =
+    subst (λ scope. AreTyped scope (lists.functions ++ functions_of (known before) x)) (sym (known_more before x)) (typed_after before x lists.functions keeps written.allowed h)
 
 none_typed : Typed [] no_lists
 unfolding known

@@ -1,5 +1,7 @@
+pub mod Bodies
 pub mod Building
 pub mod Callings
+pub mod Exactness
 pub mod Faults
 pub mod Findings
 pub mod Holdings

@@ -1,10 +1,17 @@
 //! What the lists of every program promise: how they belong together, and what is left of texts without constants.
 
-ghost use Rattle.std.specs.Prelude.{◌≡◌, ℕ, false, All, Some, length, slice_get};
+ghost use Rattle.std.specs.Prelude.{◌≡◌, ℕ, false, All, IfSome, Some, flat_map, length, slice_get};
+ghost use Rattle.pts_tree.specs.declared.script.Script.{Script};
 ghost use Rattle.pts_constants.specs.declared.texts.CallText.{CallText};
 ghost use Rattle.pts_points.specs.declared.point.CallInfo.{CallInfo};
 ghost use Rattle.pts_rules.specs.Names.{has_repeat};
+ghost use Rattle.pts_rules.specs.Parts.{statements};
+ghost use Rattle.pts_rules.specs.Scopes.{known};
+ghost use Rattle.pts_syntax.specs.Syntax.{IsSpelled};
 ghost use Rattle.pts_program.specs.declared.lists.Lists.{Lists};
+ghost use Rattle.pts_program.specs.Bodies.{IsBlockBody};
+ghost use Rattle.pts_program.specs.Exactness.{IsExact, sums_of};
+ghost use Rattle.pts_program.specs.Faults.{IsSound, item_at, items_before};
 ghost use Rattle.pts_program.specs.Holdings.{HoldsText};
 ghost use Rattle.pts_program.specs.Lists.{IsProgram};
 ghost use Rattle.pts_program.specs.Matching.{IsCallOf, IsNumbered};
@@ -43,4 +50,14 @@ pub fn every_text_keeps_the_rules_of_kinds()
 /// The ranges of calls, and the cells of calls and clauses, lie in their arrays, and no range ends before its start.
 pub fn every_range_lies_in_its_array()
     ensures { (lists : Lists) → IsProgram lists → All (HoldsText lists.arrays) lists.texts }
+{}
+
+/// Of no sum in a statement of a script that breaks no rule is anything cut: the number that is left of it is its value.
+pub fn every_sum_keeps_its_value()
+    ensures { (script : Script) (n : ℕ) → IsSpelled script → IsSound script → IfSome (item_at script n) (λ x. All (IsExact (known (items_before script n))) (flat_map sums_of (statements x))) }
+{}
+
+/// In the body of each block every `run` and every `wait` stands directly, and all of them are counted.
+pub fn every_run_stands_in_its_block()
+    ensures { (lists : Lists) → IsProgram lists → All IsBlockBody lists.blocks }
 {}
