@@ -41,7 +41,7 @@ use Rattle.pts_program.proofs.SoundStatements.{sound_statements}
 
 -- ---- lengths of arrays
 
-abbrev size : ArrayInfo → ℤ
+abbrev pub size : ArrayInfo → ℤ
 size a = pos (length a.cells)
 
 -- a length by the number of its array, and in the list of all lengths
@@ -100,7 +100,7 @@ known_place scope x h = by_value (sum_value scope x.length) h
 same_length : (n : ℕ) (z : ℤ) → not (int_eq (pos n) z) ≡ false → pos n ≡ z
 same_length n z h = grind (arith, ints, h)
 
-start_length : (scope : Scope) (x : ArrayDecl) → IsTrue (sum_is scope is_place x.length) → list_differs scope x x.start ≡ false
+pub start_length : (scope : Scope) (x : ArrayDecl) → IsTrue (sum_is scope is_place x.length) → list_differs scope x x.start ≡ false
     → pos (length (start_cells scope x.kind (natural (number scope x.length)) x.start)) ≡ number scope x.length
 start_length scope x place whole = by_start x.start whole
   where
@@ -126,13 +126,13 @@ pub record AreInside (before : List Item) (lists : Lists) : Type 0 where
   pub points : All (IsInRange lists.arrays) lists.points
   pub kinds : All IsOfKind lists.arrays
 
-abbrev Sizes : Scope → Item → List ArrayInfo → Type 0
+abbrev pub Sizes : Scope → Item → List ArrayInfo → Type 0
 Sizes scope x arrays = map size (arrays ++ arrays_of scope x) ≡ lengths (after scope x)
 
 no_array : (scope next : Scope) (arrays : List ArrayInfo) → map size arrays ≡ lengths scope → lengths next ≡ lengths scope → map size (arrays ++ []) ≡ lengths next
 no_array scope next arrays sizes same = ap (map size) (append-nil arrays) ∙ sizes ∙ sym same
 
-sizes_more : (before : List Item) (x : Item) (arrays : List ArrayInfo) → Keeps before x → map size arrays ≡ lengths (known before) → Sizes (known before) x arrays
+pub sizes_more : (before : List Item) (x : Item) (arrays : List ArrayInfo) → Keeps before x → map size arrays ≡ lengths (known before) → Sizes (known before) x arrays
 sizes_more before (items.Const x) arrays keeps sizes = no_array (known before) (after (known before) (items.Const x)) arrays sizes (append-nil (lengths (known before)))
 sizes_more before (items.Array x) arrays keeps sizes =
     let right : (sum_is (known before) is_place x.length && start_right (known before) x.kind (natural (number (known before) x.length)) x.start) ≡ true = keeps.right in

@@ -35,7 +35,7 @@ record AreListed (scope : Scope) (functions : List FunctionInfo) : Type 0 where
 
 -- ---- parameters in front
 
-param_there : (ps : List Param) (scope : Scope) → ((name : Name) (kind : Kind) → ¬ (meaning_of scope name ≡ Some (Value kind)))
+pub param_there : (ps : List Param) (scope : Scope) → ((name : Name) (kind : Kind) → ¬ (meaning_of scope name ≡ Some (Value kind)))
     → (name : Name) (kind : Kind) → meaning_of (map param_entry ps ++ scope) name ≡ Some (Value kind) → is_one_of (param_names ps) name ≡ true
 param_there [] scope none name kind is = absurd (none name kind is)
 param_there (p ∷ ps) scope none name kind is =
@@ -44,7 +44,7 @@ param_there (p ∷ ps) scope none name kind is =
       | false ↦ λ found. param_there ps scope none name kind found
     ] is
 
-function_behind : (ps : List Param) (scope : Scope) (name : Name) (f : Signature) → meaning_of (map param_entry ps ++ scope) name ≡ Some (Function f) → meaning_of scope name ≡ Some (Function f)
+pub function_behind : (ps : List Param) (scope : Scope) (name : Name) (f : Signature) → meaning_of (map param_entry ps ++ scope) name ≡ Some (Function f) → meaning_of scope name ≡ Some (Function f)
 function_behind [] scope name f is = is
 function_behind (p ∷ ps) scope name f is =
     elim (bytes_eq name p.name) as (λ b. (if b then Some (Value p.kind) else meaning_of (map param_entry ps ++ scope) name) ≡ Some (Function f) → meaning_of scope name ≡ Some (Function f)) [
@@ -52,7 +52,7 @@ function_behind (p ∷ ps) scope name f is =
       | false ↦ λ found. function_behind ps scope name f found
     ] is
 
-constant_behind : (ps : List Param) (scope : Scope) (name : Name) (z : ℤ) → meaning_of (map param_entry ps ++ scope) name ≡ Some (Constant z) → constant_of scope name ≡ Some z
+pub constant_behind : (ps : List Param) (scope : Scope) (name : Name) (z : ℤ) → meaning_of (map param_entry ps ++ scope) name ≡ Some (Constant z) → constant_of scope name ≡ Some z
 constant_behind [] scope name z is = ap (option_and_then as_constant) is
 constant_behind (p ∷ ps) scope name z is =
     elim (bytes_eq name p.name) as (λ b. (if b then Some (Value p.kind) else meaning_of (map param_entry ps ++ scope) name) ≡ Some (Constant z) → constant_of scope name ≡ Some z) [
@@ -69,7 +69,7 @@ these ps scope functions h = record {
 
 -- ---- one name more
 
-no_values_more : (scope : Scope) (x : Name) (m : Meaning) → as_value m ≡ None → ((name : Name) (kind : Kind) → ¬ (meaning_of scope name ≡ Some (Value kind)))
+pub no_values_more : (scope : Scope) (x : Name) (m : Meaning) → as_value m ≡ None → ((name : Name) (kind : Kind) → ¬ (meaning_of scope name ≡ Some (Value kind)))
     → (name : Name) (kind : Kind) → ¬ (meaning_of ((x, m) ∷ scope) name ≡ Some (Value kind))
 no_values_more scope x m other none name kind is =
     elim (bytes_eq name x) as (λ b. (if b then Some m else meaning_of scope name) ≡ Some (Value kind) → ⊥) [

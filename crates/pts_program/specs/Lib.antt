@@ -1,8 +1,14 @@
+pub mod Bodies
 pub mod Building
 pub mod Callings
+pub mod Exactness
 pub mod Faults
 pub mod Findings
+pub mod Holdings
 pub mod Lists
+pub mod Matching
+pub mod Namings
+pub mod Plain
 pub mod Ranges
 pub mod RuleNames
 pub mod Standings

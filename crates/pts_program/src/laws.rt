@@ -1,7 +1,12 @@
 //! What the rules say of every script.
 
-ghost use Rattle.std.specs.Prelude.{◌≡◌, ◌⊎◌, ℕ, [], All};
+ghost use Rattle.std.specs.Prelude.{◌≡◌, ◌⊎◌, ℕ, List, [], Some, slice_get, All};
+ghost use Rattle.pts_types.specs.Arithmetic.{GivesKind};
+ghost use Rattle.pts_types.specs.declared.value.Value.{Value};
 ghost use Rattle.pts_tree.specs.declared.script.Script.{Script};
+ghost use Rattle.pts_code.specs.declared.function.FunctionInfo.{FunctionInfo};
+ghost use Rattle.pts_code.specs.Functions.{kinds_of, outcome_of};
+ghost use Rattle.pts_code.specs.Soundness.{AreOfKinds, HaveTypedBodies};
 ghost use Rattle.pts_program.specs.declared.fault.BuildFault.{BuildFault};
 ghost use Rattle.pts_program.specs.declared.lists.Lists.{Lists};
 ghost use Rattle.pts_program.specs.Callings.{CallEarlier};
@@ -34,4 +39,15 @@ pub fn every_cell_has_its_kind()
 /// Each name in the body of a function is that of a parameter or, where it is called, of a function before it.
 pub fn functions_call_earlier_ones()
     ensures { (lists : Lists) → IsProgram lists → CallEarlier [] lists.functions }
+{}
+
+/// The body of each function has the kind of its function where its parameters and the functions before it are known, and no
+/// constants.
+pub fn functions_have_typed_bodies()
+    ensures { (lists : Lists) → IsProgram lists → HaveTypedBodies [] lists.functions }
+{}
+
+/// For arguments of the kinds of its parameters each function of a program gives a value of its kind, or throws.
+pub fn every_function_gives_its_kind()
+    ensures { (lists : Lists) (number : ℕ) (f : FunctionInfo) (arguments : List Value) → IsProgram lists → slice_get lists.functions number ≡ Some f → AreOfKinds (kinds_of f.params) arguments → GivesKind f.kind (outcome_of lists.functions number arguments) }
 {}

@@ -9,6 +9,7 @@ mod laws;
 mod lengths;
 mod lists;
 mod program;
+mod promises;
 mod standing;
 #[cfg(test)]
 mod tests;
@@ -17,10 +18,15 @@ pub use builder::build;
 pub use fault::BuildFault;
 pub use info::{ArrayInfo, StatementInfo};
 pub use laws::{
-    a_fault_or_none, every_cell_has_its_kind, every_index_in_range, functions_call_earlier_ones,
-    one_fault,
+    a_fault_or_none, every_cell_has_its_kind, every_function_gives_its_kind, every_index_in_range,
+    functions_call_earlier_ones, functions_have_typed_bodies, one_fault,
 };
 pub use program::Program;
+pub use promises::{
+    each_call_has_its_text, every_range_lies_in_its_array, every_run_stands_in_its_block,
+    every_sum_is_one_number, every_sum_keeps_its_value, every_text_keeps_the_rules_of_kinds,
+    names_of_arrays_and_functions_differ, statements_have_their_numbers,
+};
 pub use pts_code::FunctionInfo;
 pub use pts_constants::{BlockInfo, CallText};
 pub use pts_points::{Branch, CallInfo, PointForm, PointInfo};

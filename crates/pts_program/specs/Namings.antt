@@ -1,0 +1,63 @@
+-- The names that a text of a program uses: those of arrays and functions before it, and local ones.
+use Rattle.std.specs.Prelude.{◌≡◌, ℕ, ◌≤◌, Bool, true, false, IsTrue, if◌then◌else◌, Option, Some, None, List, [], ◌∷◌, ◌++◌, map, take, length, pos}
+use Rattle.std.specs.List.{list_all}
+use Rattle.std.specs.Str.{bytes_eq}
+use Rattle.pts_rules.specs.declared.meaning.Meaning.TheVariants.{Array}
+use Rattle.pts_rules.specs.Known.{Entry, Scope}
+use Rattle.pts_rules.specs.Names.{clash, has_repeat}
+use Rattle.pts_rules.specs.Mistyped.{statement_right}
+use Rattle.pts_rules.specs.Parts.{Name, Simple, Call, Loop, is_among, statement_locals, statement_names}
+use Rattle.pts_code.specs.declared.function.FunctionInfo.{FunctionInfo}
+use Rattle.pts_code.specs.Functions.{scope_of}
+use Rattle.pts_constants.specs.declared.texts.CallText.{CallText}
+use Rattle.pts_constants.specs.declared.texts.CallText.TheVariants as texts
+use Rattle.pts_program.specs.declared.info.ArrayInfo.{ArrayInfo}
+use Rattle.pts_program.specs.declared.lists.Lists.{Lists}
+
+-- ---- arrays and functions
+
+abbrev pub array_names : List ArrayInfo → List Name
+array_names arrays = map (λ a. a.name) arrays
+
+abbrev pub function_names : List FunctionInfo → List Name
+function_names functions = map (λ f. f.name) functions
+
+-- the names of a program's arrays and functions
+abbrev pub global_names : Lists → List Name
+global_names lists = array_names lists.arrays ++ function_names lists.functions
+
+-- the first array of this name
+abbrev pub array_named : List ArrayInfo → Name → Option ArrayInfo
+array_named [] name = None
+array_named (a ∷ arrays) name = if bytes_eq name a.name then Some a else array_named arrays name
+
+-- an array as a name in scope
+abbrev pub array_entry : ArrayInfo → Entry
+array_entry a = (a.name, Array a.kind (pos (length a.cells)))
+
+-- these arrays and functions as names in scope, where nothing else is
+abbrev pub names_of : List ArrayInfo → List FunctionInfo → Scope
+names_of arrays functions = map array_entry arrays ++ scope_of functions
+
+-- ---- texts
+
+-- a text as a statement
+abbrev pub as_statement : CallText → Simple
+as_statement (texts.Call x) = Call x
+as_statement (texts.Loop x) = Loop x
+
+-- a text of right kinds where the arrays and functions of a program are in scope, and no constants
+abbrev pub IsRightText : Lists → CallText → Type 0
+IsRightText lists text = IsTrue (statement_right (names_of lists.arrays lists.functions) (as_statement text))
+
+-- the names of the first arrays and functions, so many of each
+abbrev pub first_names : Lists → ℕ → ℕ → List Name
+first_names lists arrays functions = array_names (take arrays lists.arrays) ++ function_names (take functions lists.functions)
+
+-- Of the arrays and functions so many stand before the text. Each name that it uses is one of theirs or a local one, and its
+-- local names differ from each other and from theirs.
+pub record IsNamedText (lists : Lists) (text : CallText) : Type 0 where
+  pub arrays : ℕ
+  pub functions : ℕ
+  pub used : IsTrue (list_all (λ name. is_among name (first_names lists arrays functions)) (statement_names (as_statement text)))
+  pub apart : clash (first_names lists arrays functions) (statement_locals (as_statement text)) ≡ false
