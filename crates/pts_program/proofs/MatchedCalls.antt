@@ -1,8 +1,8 @@
 -- Each call has its text at its number, with its policy and its positions.
-use Rattle.std.proofs.Common.{◌≡◌, ℕ, zero, suc, ◌+◌, ◌&&◌, Bool, true, false, IsTrue, Option, Some, None, option_map, List, [], ◌∷◌, ◌++◌, length, map, slice_get, ℤ, refl, sym, ap, ◌∙◌, subst, arith}
+use Rattle.std.proofs.Common.{◌≡◌, ℕ, zero, suc, ◌+◌, ◌&&◌, Bool, true, false, IsTrue, Option, Some, None, option_map, List, [], ◌∷◌, ◌++◌, length, slice_get, ℤ, refl, sym, ap, ◌∙◌, subst, arith}
 use Rattle.std.specs.Prelude.{flat_map, ◌-ℤ◌, is_some}
 use Rattle.std.proofs.lemmas.Bool.{and_parts}
-use Rattle.std.proofs.lemmas.List.{length-append, length-map}
+use Rattle.std.proofs.lemmas.List.{length-append}
 use Rattle.std.proofs.lemmas.Option.{none-some}
 use Rattle.pts_types.specs.declared.value.Kind.TheVariants as kinds
 use Rattle.pts_tree.specs.Spelling.{if_there}
@@ -22,7 +22,8 @@ use Rattle.pts_constants.specs.declared.texts.CallText.TheVariants as texts
 use Rattle.pts_points.specs.declared.point.CallInfo.{CallInfo}
 use Rattle.pts_points.specs.Points.{call_at, calls_from, calls_of, statement_piece}
 use Rattle.pts_program.specs.declared.lists.Lists.{Lists}
-use Rattle.pts_program.specs.Lists.{no_lists, start_of, IsProgram}
+use Rattle.pts_lowering.specs.Forms.{lowered_calls, lowered_of}
+use Rattle.pts_program.specs.Lists.{no_lists, IsProgram}
 use Rattle.pts_program.specs.Matching.{AreCallsOf, IsCallOf}
 use Rattle.pts_program.proofs.ExactSums.{exact_held, exact_place}
 use Rattle.pts_program.proofs.ItemTurns.{IsTurn, by_items}
@@ -74,28 +75,36 @@ module _ (scope : Scope) where
       behind (text_of scope s) (flat_map (text_of scope) ss) (call_at scope item n s) (calls_from scope item (n + (statement_piece scope s).size) ss)
       (one_matched item n s h.0) (all_matched item (n + (statement_piece scope s).size) ss h.1)
 
+  -- a form for each call
+  lowered_count : (item n : ℕ) (ss : List Simple) → length (flat_map (lowered_of scope) ss) ≡ length (calls_from scope item n ss)
+  lowered_count item n [] = refl
+  lowered_count item n (Throw code ∷ ss) = lowered_count item (n + (statement_piece scope (Throw code)).size) ss
+  lowered_count item n (Assign at x ∷ ss) = lowered_count item (n + (statement_piece scope (Assign at x)).size) ss
+  lowered_count item n (Call x ∷ ss) = ap suc (lowered_count item (n + (statement_piece scope (Call x)).size) ss)
+  lowered_count item n (Loop x ∷ ss) = ap suc (lowered_count item (n + (statement_piece scope (Loop x)).size) ss)
+
 -- ---- all items
 
 record AreMatched (before : List Item) (lists : Lists) : Type 0 where
   pub texts : AreCallsOf lists.texts lists.calls
-  pub starts : length lists.call_starts ≡ length lists.calls
+  pub lowered : length lists.lowered_calls ≡ length lists.calls
 
 matched_turn : IsTurn AreMatched
 matched_turn before x lists keeps written h =
     let scope = known before in
     let item = length before + 1 in
     let new : List CallInfo = calls_of scope item (length lists.calls) x in
-    let size = length-append lists.call_starts (map (start_of (length lists.points)) new) in
-    let same = length-map new (start_of (length lists.points)) in
+    let size = length-append lists.lowered_calls (lowered_calls scope x) in
+    let same = lowered_count scope item 0 (statements x) in
     let count = length-append lists.calls new in
-    let old = h.starts in
+    let old = h.lowered in
     record {
       texts = behind scope lists.texts (texts_of scope x) lists.calls new h.texts (all_matched scope item 0 (statements x) (item_ready before x keeps written.allowed));
-      starts = omega (arith, size, same, count, old);
+      lowered = omega (arith, size, same, count, old);
     }
 
 nothing_matched : AreMatched [] no_lists
-nothing_matched = record { texts = tt; starts = refl }
+nothing_matched = record { texts = tt; lowered = refl }
 
 as_many : (ts : List CallText) (cs : List CallInfo) → AreCallsOf ts cs → length ts ≡ length cs
 as_many [] [] h = refl
@@ -113,8 +122,8 @@ at_number (t ∷ ts) (c ∷ cs) zero text info h is there =
     subst (λ y. IsCallOf text y) own (subst (λ y. IsCallOf y c) same h.0)
 at_number (t ∷ ts) (c ∷ cs) (suc n) text info h is there = at_number ts cs n text info h.1 is there
 
-pub calls_counted : (lists : Lists) → IsProgram lists → (length lists.texts ≡ length lists.calls) × (length lists.call_starts ≡ length lists.calls)
-calls_counted lists h = let m = by_items AreMatched matched_turn nothing_matched lists h in (as_many lists.texts lists.calls m.texts, m.starts)
+pub calls_counted : (lists : Lists) → IsProgram lists → (length lists.texts ≡ length lists.calls) × (length lists.lowered_calls ≡ length lists.calls)
+calls_counted lists h = let m = by_items AreMatched matched_turn nothing_matched lists h in (as_many lists.texts lists.calls m.texts, m.lowered)
 
 pub calls_match : (lists : Lists) (n : ℕ) (text : CallText) (info : CallInfo) → IsProgram lists → slice_get lists.texts n ≡ Some text → slice_get lists.calls n ≡ Some info → IsCallOf text info
 calls_match lists n text info h is there = at_number lists.texts lists.calls n text info (by_items AreMatched matched_turn nothing_matched lists h).texts is there

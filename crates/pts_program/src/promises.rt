@@ -18,10 +18,10 @@ ghost use Rattle.pts_program.specs.Matching.{IsCallOf, IsNumbered};
 ghost use Rattle.pts_program.specs.Namings.{IsRightText, global_names};
 ghost use Rattle.pts_program.specs.Plain.{IsPlainBlock, IsPlainText};
 
-/// There are as many texts as calls, and first points of calls; the text of a call has its policy and its positions.
+/// There are as many texts as calls, and as many forms in which they run; the text of a call has its policy and its positions.
 pub fn each_call_has_its_text()
     ensures texts { (lists : Lists) → IsProgram lists → length lists.texts ≡ length lists.calls }
-    ensures starts { (lists : Lists) → IsProgram lists → length lists.call_starts ≡ length lists.calls }
+    ensures forms { (lists : Lists) → IsProgram lists → length lists.lowered_calls ≡ length lists.calls }
     ensures each { (lists : Lists) (n : ℕ) (text : CallText) (call : CallInfo) → IsProgram lists → slice_get lists.texts n ≡ Some text → slice_get lists.calls n ≡ Some call → IsCallOf text call }
 {}
 
