@@ -62,15 +62,15 @@ outside scope names no_values no_views agrees = record {
 }
 
 -- a local name
-record IsLocal (m : Meaning) : Type 0 where
+pub record IsLocal (m : Meaning) : Type 0 where
   pub constant : as_constant m ≡ None
   pub array : as_array m ≡ None
   pub function : as_function m ≡ None
 
-value_local : (kind : Kind) → IsLocal (Value kind)
+pub value_local : (kind : Kind) → IsLocal (Value kind)
 value_local kind = record { constant = refl; array = refl; function = refl }
 
-view_local : (kind : Kind) → IsLocal (View kind)
+pub view_local : (kind : Kind) → IsLocal (View kind)
 view_local kind = record { constant = refl; array = refl; function = refl }
 
 -- one more, that is the name of no constant

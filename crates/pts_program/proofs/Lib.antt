@@ -31,3 +31,8 @@ pub mod HeldTexts
 pub mod BlockBodies
 pub mod CountedBodies
 pub mod ExactTexts
+pub mod IndexNames
+pub mod UsedNames
+pub mod BodyNames
+pub mod SameLocals
+pub mod TextNames

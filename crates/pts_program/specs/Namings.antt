@@ -1,12 +1,17 @@
 -- The names that a text of a program uses: those of arrays and functions before it, and local ones.
-use Rattle.std.specs.Prelude.{◌≡◌, ℕ, ◌≤◌, Bool, true, false, IsTrue, if◌then◌else◌, Option, Some, None, List, [], ◌∷◌, ◌++◌, map, take, length, pos}
+use Rattle.std.specs.Prelude.{◌≡◌, ℕ, ◌≤◌, Bool, true, false, IsTrue, if◌then◌else◌, Option, Some, None, List, [], ◌∷◌, ◌++◌, flat_map, map, take, length, pos}
 use Rattle.std.specs.List.{list_all}
 use Rattle.std.specs.Str.{bytes_eq}
 use Rattle.pts_rules.specs.declared.meaning.Meaning.TheVariants.{Array}
 use Rattle.pts_rules.specs.Known.{Entry, Scope}
 use Rattle.pts_rules.specs.Names.{clash, has_repeat}
 use Rattle.pts_rules.specs.Mistyped.{statement_right}
-use Rattle.pts_rules.specs.Parts.{Name, Simple, Call, Loop, is_among, statement_locals, statement_names}
+use Rattle.pts_tree.specs.declared.loops.Loop as loops
+use Rattle.pts_tree.specs.declared.loops.BodyStmt.{BodyStmt}
+use Rattle.pts_tree.specs.declared.loops.BodyStmt.TheOpen.{BodyStmt-F}
+use Rattle.pts_tree.specs.declared.loops.BodyStmt.TheFolds.{fold-BodyStmt}
+use Rattle.pts_rules.specs.Parts.{Name, Simple, Call, Loop, call_names, clause_names, expr_names, head_locals, is_among, place_names, statement_locals, sum_names}
+use Rattle.pts_rules.specs.Parts as parts
 use Rattle.pts_code.specs.declared.function.FunctionInfo.{FunctionInfo}
 use Rattle.pts_code.specs.Functions.{scope_of}
 use Rattle.pts_constants.specs.declared.texts.CallText.{CallText}
@@ -54,10 +59,33 @@ IsRightText lists text = IsTrue (statement_right (names_of lists.arrays lists.fu
 abbrev pub first_names : Lists → ℕ → ℕ → List Name
 first_names lists arrays functions = array_names (take arrays lists.arrays) ++ function_names (take functions lists.functions)
 
--- Of the arrays and functions so many stand before the text. Each name that it uses is one of theirs or a local one, and its
+-- one case for each form of statement
+abbrev pub all_names_step : BodyStmt-F (List Name) → List Name
+all_names_step (BodyStmt-F.Assign at x) = place_names at ++ expr_names x
+all_names_step (BodyStmt-F.Let name x) = name ∷ expr_names x
+all_names_step (BodyStmt-F.Combine name x) = name ∷ expr_names x
+all_names_step (BodyStmt-F.If x xs ys) = expr_names x ++ flat_map (λ y. y) xs ++ parts.names_of (flat_map (λ y. y)) ys
+all_names_step (BodyStmt-F.VecOff xs) = flat_map (λ y. y) xs
+all_names_step (BodyStmt-F.Ordered at op x) = place_names at ++ expr_names x
+
+-- all names of a statement of a body
+unfoldable pub all_names : BodyStmt → List Name
+all_names = fold-BodyStmt (List Name) all_names_step
+
+abbrev pub loop_text_names : loops.Loop → List Name
+loop_text_names x =
+    head_locals x ++ sum_names x.low ++ sum_names x.high ++ parts.names_of sum_names x.step ++ flat_map clause_names x.clauses ++ flat_map all_names x.body
+
+-- all names of a text, at whatever place
+abbrev pub text_names : CallText → List Name
+text_names (texts.Call x) = call_names x
+text_names (texts.Loop x) = loop_text_names x
+
+-- Of the arrays and functions so many stand before the text. Each name of the text is one of theirs or a local one, and its
 -- local names differ from each other and from theirs.
 pub record IsNamedText (lists : Lists) (text : CallText) : Type 0 where
   pub arrays : ℕ
   pub functions : ℕ
-  pub used : IsTrue (list_all (λ name. is_among name (first_names lists arrays functions)) (statement_names (as_statement text)))
+  pub within : (arrays ≤ length lists.arrays) × (functions ≤ length lists.functions)
+  pub known : IsTrue (list_all (λ name. is_among name (first_names lists arrays functions ++ statement_locals (as_statement text))) (text_names text))
   pub apart : clash (first_names lists arrays functions) (statement_locals (as_statement text)) ≡ false
