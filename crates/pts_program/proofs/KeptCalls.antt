@@ -129,7 +129,7 @@ module _ (scope names : Scope) (agrees : Agrees scope names) where
       let sides = and_parts (is_some (kind_of_array scope x.array) && sum_is scope is_place x.low) (sum_is scope is_place x.high) h in
       kind_same x.array (and_parts (is_some (kind_of_array scope x.array)) (sum_is scope is_place x.low) sides.0).0
 
-  cell_still : (kind : Kind) (x : Cell) → cell_right scope kind x ≡ true → cell_right names kind (resolved_cell scope x) ≡ true
+  pub cell_still : (kind : Kind) (x : Cell) → cell_right scope kind x ≡ true → cell_right names kind (resolved_cell scope x) ≡ true
   cell_still kind x h =
       let parts = and_parts (has (same_kind kind) (kind_of_array scope x.array)) (sum_is scope is_place x.index) h in
       both _ _ (ap (has (same_kind kind)) (kind_tested x.array (same_kind kind) parts.0) ∙ parts.0) (still_place scope names x.index parts.1)

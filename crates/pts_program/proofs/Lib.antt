@@ -36,3 +36,4 @@ pub mod UsedNames
 pub mod BodyNames
 pub mod SameLocals
 pub mod TextNames
+pub mod InnerStatements

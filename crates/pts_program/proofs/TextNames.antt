@@ -16,6 +16,7 @@ use Rattle.pts_tree.specs.declared.sum.Val.{Val}
 use Rattle.pts_tree.specs.declared.sum.Val.TheVariants as vals
 use Rattle.pts_tree.specs.declared.sum.Range.{Range}
 use Rattle.pts_tree.specs.declared.sum.Cell.{Cell}
+use Rattle.pts_tree.specs.declared.expr.Expr.{Expr}
 use Rattle.pts_tree.specs.declared.call.Op.{Op}
 use Rattle.pts_tree.specs.declared.call.Op.TheVariants as op_variants
 use Rattle.pts_tree.specs.declared.call.Call as call
@@ -33,31 +34,34 @@ use Rattle.pts_rules.specs.declared.meaning.Meaning.{Meaning}
 use Rattle.pts_rules.specs.declared.meaning.Meaning.TheVariants.{Constant, Array, Function, Value, View}
 use Rattle.pts_rules.specs.declared.meaning.Signature.{Signature}
 use Rattle.pts_rules.specs.Indices.{has_not_affine, index_not_affine, places}
+use Rattle.pts_rules.specs.Kinds.{fits}
 use Rattle.pts_rules.specs.Known.{Scope, as_array, as_constant, as_function, function_of, has, holds, is_place, kind_of_array, meaning_of, same_kind, sum_is, val_fits}
 use Rattle.pts_rules.specs.Mistyped.{body_scope, call_right, cell_right, checked_stmt, all_right, clause_entries, clause_right, form_right, function_right, initial_right, op_right, range_right, source_kinds, sum_right, target_right}
 use Rattle.pts_rules.specs.Names.{clash, has_repeat, meet, names_in}
-use Rattle.pts_rules.specs.Parts.{Name, Simple, Throw, Assign, Call, Loop, cell_names, clause_name, clause_names, head_locals, initial_names, is_among, lets, loop_locals, names_of, op_names, range_names, statement_locals, statements, sum_names, val_names}
+use Rattle.pts_rules.specs.Parts.{Name, Simple, Throw, Assign, Call, Loop, call_names, cell_names, clause_name, clause_names, expr_names, head_locals, initial_names, is_among, lets, loop_locals, names_of, op_names, range_names, statement_locals, statements, sum_names, val_names}
 use Rattle.pts_rules.specs.Scopes.{known}
 use Rattle.pts_code.specs.declared.function.FunctionInfo.{FunctionInfo}
-use Rattle.pts_constants.specs.Resolved.{resolved_call, resolved_cell, resolved_clause, resolved_initial, resolved_loop, resolved_range, resolved_stmt, resolved_sum, resolved_val}
-use Rattle.pts_constants.specs.Texts.{text_of, texts_of}
+use Rattle.pts_constants.specs.Resolved.{resolved_call, resolved_cell, resolved_clause, resolved_expr, resolved_initial, resolved_loop, resolved_range, resolved_stmt, resolved_sum, resolved_val}
+use Rattle.pts_constants.specs.Blocks.{blocks_of}
+use Rattle.pts_constants.specs.Texts.{texts_of}
 use Rattle.pts_constants.specs.declared.texts.CallText.{CallText}
-use Rattle.pts_constants.specs.declared.texts.CallText.TheVariants as texts
 use Rattle.pts_points.proofs.Each.{Each}
 use Rattle.pts_points.proofs.Each as each
 use Rattle.pts_program.specs.declared.info.ArrayInfo.{ArrayInfo}
 use Rattle.pts_program.specs.declared.lists.Lists.{Lists}
 use Rattle.pts_program.specs.Lists.{arrays_of, functions_of, no_lists, with_item, IsProgram}
-use Rattle.pts_program.specs.Namings.{IsNamedText, all_names, array_named, array_names, as_statement, first_names, function_names, loop_text_names, text_names}
+use Rattle.pts_program.specs.Namings.{HoldsIn, HoldsOf, IsNamed, all_names, array_named, array_names, as_statement, function_names, loop_text_names, simple_names}
 use Rattle.pts_program.proofs.BodyNames.{body_names, owns_more}
 use Rattle.pts_program.proofs.IndexNames.{AreOf}
+use Rattle.pts_program.proofs.InnerStatements.{Without, blocks_hold, texts_hold}
 use Rattle.pts_program.proofs.ItemTurns.{IsTurn, by_items}
+use Rattle.pts_program.proofs.Replaced.{resolved_simple}
 use Rattle.pts_program.proofs.KeptBodies.{value_local, view_local}
 use Rattle.pts_program.proofs.NamesApart.{apart_from, in_neither, meets_not, neither_in, not_true, unnamed}
 use Rattle.pts_program.proofs.RightTexts.{IsReady, item_ready}
 use Rattle.pts_program.proofs.SameLocals.{heads_same, locals_same}
 use Rattle.pts_program.proofs.Shown.{AreShown, nothing_shown, shown_turn}
-use Rattle.pts_program.proofs.UsedNames.{Owns}
+use Rattle.pts_program.proofs.UsedNames.{Owns, fitting_names}
 
 -- ---- names among others
 
@@ -253,7 +257,7 @@ module _ (scope : Scope) (arrays : List ArrayInfo) (functions : List FunctionInf
   rest_ours x forms.TransformInclusiveScan parts h = sum_rest x _ h
   rest_ours x forms.TransformExclusiveScan parts h = sum_rest x _ h
 
-  call_ours : (x : call.Call) → IsReady scope (Call x) → AreOf ours (text_names (texts.Call (resolved_call scope x)))
+  call_ours : (x : call.Call) → IsReady scope (Call x) → AreOf ours (call_names (resolved_call scope x))
   call_ours x h =
       let p3 = and_parts (range_right scope x.first && if_there (range_right scope) x.second && if_there (range_right scope) x.target) (form_right x.form scope x) h.sound.right in
       let p2 = and_parts (range_right scope x.first && if_there (range_right scope) x.second) (if_there (range_right scope) x.target) p3.0 in
@@ -374,40 +378,48 @@ module _ (scope : Scope) (arrays : List ArrayInfo) (functions : List FunctionInf
       (not_true (is_among name (array_names arrays)) (λ found. let a = shown.arrays_known name found in none-some (Array a.kind a.size) (sym none ∙ a.means)))
       (not_true (is_among name (function_names functions)) (λ found. let f = shown.functions_known name found in none-some (Function f.signature) (sym none ∙ f.means))))
 
-  -- the names of a text, where these arrays and functions stand before it
-  record Uses (text : CallText) : Type 0 where
-    pub known : list_all (λ name. is_among name (globals arrays functions ++ statement_locals (as_statement text))) (text_names text) ≡ true
-    pub apart : clash (globals arrays functions) (statement_locals (as_statement text)) ≡ false
+  -- the names of a statement, where these arrays and functions stand before it
+  record Uses (x : Simple) : Type 0 where
+    pub known : list_all (λ name. is_among name (globals arrays functions ++ statement_locals x)) (simple_names x) ≡ true
+    pub apart : clash (globals arrays functions) (statement_locals x) ≡ false
 
-  text_uses : (s : Simple) → has_not_affine scope s ≡ false → IsReady scope s → Each Uses (text_of scope s)
-  text_uses (Throw n) lines h = tt
-  text_uses (Assign at x) lines h = tt
-  text_uses (Call x) lines h = (
-    record {
-        known = each_true (globals arrays functions ++ []) (text_names (texts.Call (resolved_call scope x))) (call_ours scope arrays functions shown [] x h);
-        apart = new_names [] h.apart;
-      },
-    tt,
-  )
-  text_uses (Loop x) lines h =
+  -- a statement without local names
+  no_locals : (x : Simple) → statement_locals x ≡ [] → AreOf (globals arrays functions ++ []) (simple_names x) → Uses x
+  no_locals x none h = record {
+    known = ap (λ ls. list_all (λ name. is_among name (globals arrays functions ++ ls)) (simple_names x)) none ∙ each_true (globals arrays functions ++ []) (simple_names x) h;
+    apart = ap (clash (globals arrays functions)) none;
+  }
+
+  assign_names : (at : Cell) (x : Expr) (o : Option Kind) → has_not_affine scope (Assign at x) ≡ false → has (λ kind. cell_right scope kind at && fits true scope kind x) o ≡ true
+      → AreOf (globals arrays functions ++ []) (cell_names (resolved_cell scope at) ++ expr_names (resolved_expr scope x))
+  assign_names at x None lines h = absurd (false≢true h)
+  assign_names at x (Some kind) lines h =
+      let ours = globals arrays functions ++ [] in
+      let parts = and_parts (cell_right scope kind at) (fits true scope kind x) h in
+      each.both (λ name. is_among name ours ≡ true) (cell_names (resolved_cell scope at)) (expr_names (resolved_expr scope x)) (cell_ours scope arrays functions shown [] kind at parts.0)
+      (fitting_names scope None ours (λ name h. absurd (false≢true h)) scope (owns scope arrays functions shown []) kind x parts.1 lines)
+
+  statement_uses : (s : Simple) → has_not_affine scope s ≡ false → IsReady scope s → Uses (resolved_simple scope s)
+  statement_uses (Throw n) lines h = no_locals (Throw n) refl tt
+  statement_uses (Assign at x) lines h = no_locals (resolved_simple scope (Assign at x)) refl (assign_names at x (kind_of_array scope at.array) lines h.sound.right)
+  statement_uses (Call x) lines h = no_locals (resolved_simple scope (Call x)) refl (call_ours scope arrays functions shown [] x h)
+  statement_uses (Loop x) lines h =
       let locals = loop_locals x in
       let ours = globals arrays functions ++ locals in
       let own : AreOf ours locals = all_among (globals arrays functions) locals in
-      let names = loop_ours scope arrays functions shown locals x own lines h in (
-        record {
-            known =
-                ap (λ ls. list_all (λ name. is_among name (globals arrays functions ++ ls)) (loop_text_names (resolved_loop scope x))) (locals_same scope x)
-                ∙ each_true ours (loop_text_names (resolved_loop scope x)) names;
-            apart = ap (clash (globals arrays functions)) (locals_same scope x) ∙ new_names locals h.apart;
-          },
-        tt,
-      )
+      let names = loop_ours scope arrays functions shown locals x own lines h in
+      record {
+        known =
+            ap (λ ls. list_all (λ name. is_among name (globals arrays functions ++ ls)) (loop_text_names (resolved_loop scope x))) (locals_same scope x)
+            ∙ each_true ours (loop_text_names (resolved_loop scope x)) names;
+        apart = ap (clash (globals arrays functions)) (locals_same scope x) ∙ new_names locals h.apart;
+      }
 
-  texts_use : (ss : List Simple) → list_any (has_not_affine scope) ss ≡ false → Each (IsReady scope) ss → Each Uses (flat_map (text_of scope) ss)
-  texts_use [] lines h = tt
-  texts_use (s ∷ ss) lines h =
+  all_use : (ss : List Simple) → list_any (has_not_affine scope) ss ≡ false → Each (IsReady scope) ss → Each (Without Uses scope) ss
+  all_use [] lines h = tt
+  all_use (s ∷ ss) lines h =
       let parts = or_parts (has_not_affine scope s) (list_any (has_not_affine scope) ss) lines in
-      each.both Uses (text_of scope s) (flat_map (text_of scope) ss) (text_uses s parts.0 h.0) (texts_use ss parts.1 h.1)
+      (statement_uses s parts.0 h.0, all_use ss parts.1 h.1)
 
 -- ---- all items
 
@@ -420,8 +432,8 @@ first_all : (arrays more : List ArrayInfo) (functions others : List FunctionInfo
     → array_names (take (length arrays) (arrays ++ more)) ++ function_names (take (length functions) (functions ++ others)) ≡ globals arrays functions
 first_all arrays more functions others = λ i. array_names (take-append_seam arrays more i) ++ function_names (take-append_seam functions others i)
 
-still_named : (scope : Scope) (n : ℕ) (lists : Lists) (x : Item) (text : CallText) → IsNamedText lists text → IsNamedText (with_item scope n lists x) text
-still_named scope n lists x text h =
+still_named : (scope : Scope) (n : ℕ) (lists : Lists) (x : Item) (s : Simple) → IsNamed lists s → IsNamed (with_item scope n lists x) s
+still_named scope n lists x s h =
     let same = first_same lists.arrays (arrays_of scope x) lists.functions (functions_of scope x) h.arrays h.functions h.within.0 h.within.1 in
     let a = length-append lists.arrays (arrays_of scope x) in
     let f = length-append lists.functions (functions_of scope x) in
@@ -430,13 +442,13 @@ still_named scope n lists x text h =
       arrays = h.arrays;
       functions = h.functions;
       within = (omega (arith, a, w), omega (arith, f, w));
-      known = ap (λ names. list_all (λ name. is_among name (names ++ statement_locals (as_statement text))) (text_names text)) same ∙ h.known;
-      apart = ap (λ names. clash names (statement_locals (as_statement text))) same ∙ h.apart;
+      known = ap (λ names. list_all (λ name. is_among name (names ++ statement_locals s)) (simple_names s)) same ∙ h.known;
+      apart = ap (λ names. clash names (statement_locals s)) same ∙ h.apart;
     }
 
-new_named : (before : List Item) (lists : Lists) (x : Item) (text : CallText) (shown : AreShown (known before) lists.arrays lists.functions) → Uses (known before) lists.arrays lists.functions shown text
-    → IsNamedText (with_item (known before) (length before + 1) lists x) text
-new_named before lists x text shown h =
+new_named : (before : List Item) (lists : Lists) (x : Item) (s : Simple) (shown : AreShown (known before) lists.arrays lists.functions) → Uses (known before) lists.arrays lists.functions shown s
+    → IsNamed (with_item (known before) (length before + 1) lists x) s
+new_named before lists x s shown h =
     let scope = known before in
     let same = first_all lists.arrays (arrays_of scope x) lists.functions (functions_of scope x) in
     let a = length-append lists.arrays (arrays_of scope x) in
@@ -445,28 +457,39 @@ new_named before lists x text shown h =
       arrays = length lists.arrays;
       functions = length lists.functions;
       within = (omega (arith, a), omega (arith, f));
-      known = ap (λ names. list_all (λ name. is_among name (names ++ statement_locals (as_statement text))) (text_names text)) same ∙ h.known;
-      apart = ap (λ names. clash names (statement_locals (as_statement text))) same ∙ h.apart;
+      known = ap (λ names. list_all (λ name. is_among name (names ++ statement_locals s)) (simple_names s)) same ∙ h.known;
+      apart = ap (λ names. clash names (statement_locals s)) same ∙ h.apart;
     }
 
 record AreNamed (before : List Item) (lists : Lists) : Type 0 where
   pub shown : AreShown (known before) lists.arrays lists.functions
-  pub texts : Each (IsNamedText lists) lists.texts
+  pub texts : Each (HoldsOf (IsNamed lists)) lists.texts
+  pub blocks : Each (HoldsIn (IsNamed lists)) lists.blocks
 
 named_turn : IsTurn AreNamed
-named_turn before x lists keeps written h = record {
-  shown = shown_turn before x lists keeps written h.shown;
-  texts =
-      let scope = known before in
-      let next : Lists = with_item scope (length before + 1) lists x in
-      each.both (IsNamedText next) lists.texts (texts_of scope x)
-      (each.weaker (IsNamedText lists) (IsNamedText next) (still_named scope (length before + 1) lists x) lists.texts h.texts)
-      (each.weaker (Uses scope lists.arrays lists.functions h.shown) (IsNamedText next) (λ text u. new_named before lists x text h.shown u) (texts_of scope x)
-      (texts_use scope lists.arrays lists.functions h.shown (statements x) keeps.affine (item_ready before x keeps written.allowed)));
-}
+named_turn before x lists keeps written h =
+    let scope = known before in
+    let next : Lists = with_item scope (length before + 1) lists x in
+    let still = still_named scope (length before + 1) lists x in
+    let own : Each (Without (IsNamed next) scope) (statements x) =
+    each.weaker (Without (Uses scope lists.arrays lists.functions h.shown) scope) (Without (IsNamed next) scope) (λ s u. new_named before lists x (resolved_simple scope s) h.shown u) (statements x)
+    (all_use scope lists.arrays lists.functions h.shown (statements x) keeps.affine (item_ready before x keeps written.allowed)) in
+    record {
+      shown = shown_turn before x lists keeps written h.shown;
+      texts =
+          each.both (HoldsOf (IsNamed next)) lists.texts (texts_of scope x) (each.weaker (HoldsOf (IsNamed lists)) (HoldsOf (IsNamed next)) (λ text. still (as_statement text)) lists.texts h.texts)
+          (texts_hold (IsNamed next) scope (statements x) own);
+      blocks =
+          each.both (HoldsIn (IsNamed next)) lists.blocks (blocks_of scope (length before + 1) x)
+          (each.weaker (HoldsIn (IsNamed lists)) (HoldsIn (IsNamed next)) (λ block all k d within. still _ (all k d within)) lists.blocks h.blocks)
+          (blocks_hold (IsNamed next) scope (length before + 1) x own);
+    }
 
 nothing_named : AreNamed [] no_lists
-nothing_named = record { shown = nothing_shown; texts = tt }
+nothing_named = record { shown = nothing_shown; texts = tt; blocks = tt }
 
-pub texts_named : (lists : Lists) → IsProgram lists → All (IsNamedText lists) lists.texts
-texts_named lists h = each.all_of (IsNamedText lists) lists.texts (by_items AreNamed named_turn nothing_named lists h).texts
+pub texts_named : (lists : Lists) → IsProgram lists → All (HoldsOf (IsNamed lists)) lists.texts
+texts_named lists h = each.all_of (HoldsOf (IsNamed lists)) lists.texts (by_items AreNamed named_turn nothing_named lists h).texts
+
+pub blocks_named : (lists : Lists) → IsProgram lists → All (HoldsIn (IsNamed lists)) lists.blocks
+blocks_named lists h = each.all_of (HoldsIn (IsNamed lists)) lists.blocks (by_items AreNamed named_turn nothing_named lists h).blocks
