@@ -1,8 +1,8 @@
 -- The blocks of an item, with what the grammar and their spelling say of each.
-use Rattle.std.proofs.Common.{◌≡◌, ℕ, suc, ◌+◌, ◌-◌, ◌^◌, ◌<◌, ◌≤◌, Bool, true, false, ◌&&◌, not, IsTrue, List, [], ◌∷◌, ◌++◌, length, map, refl, sym, ap, ◌∙◌, subst, arith}
-use Rattle.std.specs.Prelude.{flat_map, filter, min}
+use Rattle.std.proofs.Common.{◌≡◌, ℕ, ◌+◌, ◌≤◌, Bool, true, List, [], ◌∷◌, ◌++◌, length, map, refl, sym, ap, ◌∙◌, subst, arith}
+use Rattle.std.specs.Prelude.{flat_map}
 use Rattle.std.specs.List.{list_all}
-use Rattle.std.proofs.lemmas.Bool.{and_parts, false≢true}
+use Rattle.std.proofs.lemmas.Bool.{and_parts}
 use Rattle.std.proofs.lemmas.List.{length-append}
 use Rattle.pts_tree.specs.declared.mark.Mark.TheVariants as m
 use Rattle.pts_tree.specs.declared.sum.Cell.{Cell}
@@ -11,7 +11,7 @@ use Rattle.pts_tree.specs.declared.call.Call.{Call}
 use Rattle.pts_tree.specs.declared.loops.Loop.{Loop}
 use Rattle.pts_tree.specs.Signs.{Sign, Mark}
 use Rattle.pts_tree.specs.Spelling.{Text, each}
-use Rattle.pts_tree.specs.Statements.{Phrase, Task, block, block_step, run_allowed, task, task_allowed, task_block, task_body, task_text, tstmt, whole_block}
+use Rattle.pts_tree.specs.Statements.{Phrase, Task, block, block_step, run_allowed, task, task_allowed, task_block, task_body, tstmt, whole_block}
 use Rattle.pts_tree.specs.declared.block.Block.{Block, out-Block, roll-Block, out-roll-Block, map-Block, ind-Block}
 use Rattle.pts_tree.specs.declared.block.TaskStmt.{TaskStmt, roll-TaskStmt}
 use Rattle.pts_tree.specs.declared.block.TaskStmt.TheOpen.{TaskStmt-F, Block-F}

@@ -1,8 +1,7 @@
 -- The names of a body that is right, and whose indices are lines: without its constants they are local or those of arrays and
 -- functions.
-use Rattle.std.proofs.Common.{◌≡◌, ℕ, Bool, true, false, ◌&&◌, if◌then◌else◌, Option, Some, None, List, [], ◌∷◌, ◌++◌, map, option_map, option_and_then, bytes_eq, ℤ, refl, sym, ap, ◌∙◌, subst}
+use Rattle.std.proofs.Common.{◌≡◌, ℕ, Bool, true, false, ◌&&◌, if◌then◌else◌, Option, Some, None, List, [], ◌∷◌, ◌++◌, map, option_map, option_and_then, bytes_eq, refl, sym, ap, ◌∙◌, subst}
 use Rattle.std.specs.Prelude.{flat_map}
-use Rattle.std.specs.List.{list_any}
 use Rattle.std.proofs.lemmas.Bool.{and_parts, false≢true}
 use Rattle.std.proofs.lemmas.Option.{none-some}
 use Rattle.std.proofs.lemmas.Slice.Eq.{bytes_eq-Decides}
@@ -17,10 +16,9 @@ use Rattle.pts_tree.specs.declared.loops.BodyStmt.TheOpen.{BodyStmt-F}
 use Rattle.pts_tree.specs.declared.loops.BodyStmt.TheVariants as b
 use Rattle.pts_rules.specs.declared.meaning.Meaning.{Meaning}
 use Rattle.pts_rules.specs.declared.meaning.Meaning.TheVariants.{Constant, Array, Function, Value, View}
-use Rattle.pts_rules.specs.declared.meaning.Signature.{Signature}
 use Rattle.pts_rules.specs.Indices.{elements, else_places, places}
 use Rattle.pts_rules.specs.Kinds.{fits, let_kind}
-use Rattle.pts_rules.specs.Known.{Scope, as_array, as_constant, as_function, as_view, constant_of, has, is_number, kind_of_array, meaning_of, view_of}
+use Rattle.pts_rules.specs.Known.{Scope, as_array, as_constant, as_view, constant_of, has, is_number, kind_of_array, meaning_of, view_of}
 use Rattle.pts_rules.specs.Mistyped.{Checked, all_right, checked_stmt}
 use Rattle.pts_rules.specs.Parts.{Name, expr_names, is_among, lets, names_of, place_names}
 use Rattle.pts_rules.proofs.Bodies.{checked-Assign, checked-Let, checked-Combine, checked-If, checked-VecOff, checked-Ordered, lets-If, lets-Let, lets-VecOff, places-Assign, places-Let, places-Combine, places-If, places-VecOff, places-Ordered}

@@ -1,17 +1,13 @@
 -- The ranges and cells of a program's texts lie in their arrays.
-use Rattle.std.proofs.Common.{◌≡◌, ℕ, ◌+◌, ◌*◌, ◌<◌, Bool, true, false, ◌&&◌, if◌then◌else◌, Option, Some, None, option_map, option_and_then, List, [], ◌∷◌, ◌++◌, length, map, ℤ, pos, refl, sym, ap, ◌∙◌, subst, arith}
+use Rattle.std.proofs.Common.{◌≡◌, ℕ, ◌+◌, Bool, true, false, ◌&&◌, Option, Some, None, option_map, option_and_then, List, [], ◌∷◌, ◌++◌, length, map, ℤ, pos, refl, sym, ap, ◌∙◌, subst, arith}
 use Rattle.std.specs.Prelude.{All, IfSome, flat_map, is_none, is_some, int_le, int_lt, ◌≤ℤ◌, ◌<ℤ◌, ◌+ℤ◌, ◌-ℤ◌, ◌*ℤ◌, ◌==◌, ◌||◌}
-use Rattle.std.specs.List.{list_all, list_any}
+use Rattle.std.specs.List.{list_all}
 use Rattle.std.proofs.lemmas.Bool.{and_parts, or_parts, false≢true}
 use Rattle.std.proofs.lemmas.Int.{ints}
-use Rattle.std.proofs.lemmas.Option.{none-some}
 use Rattle.pts_types.specs.Arithmetic.{greatest_i64}
 use Rattle.pts_types.specs.declared.value.Kind.{Kind}
 use Rattle.pts_types.specs.declared.value.Kind.TheVariants as kinds
-use Rattle.pts_affine.specs.declared.line.Line.{Line}
-use Rattle.pts_affine.specs.Lines.{cell}
 use Rattle.pts_tree.specs.Spelling.{has_parts, if_there}
-use Rattle.pts_tree.specs.declared.sum.Sum.{Sum}
 use Rattle.pts_tree.specs.declared.sum.Range.{Range}
 use Rattle.pts_tree.specs.declared.sum.Cell.{Cell}
 use Rattle.pts_tree.specs.declared.expr.Expr.{Expr}
@@ -27,12 +23,12 @@ use Rattle.pts_tree.specs.declared.script.Item.{Item}
 use Rattle.pts_rules.specs.declared.meaning.Meaning.{Meaning}
 use Rattle.pts_rules.specs.declared.meaning.Meaning.TheVariants.{Constant, Array, Function, Value, View}
 use Rattle.pts_rules.specs.Kinds.{fits}
-use Rattle.pts_rules.specs.Known.{Scope, meaning_of, array_of, as_array, has, is_place, kind_of_array, natural, number, same_kind, sum_is, val_fits}
-use Rattle.pts_rules.specs.Indices.{Reach, Span, Along, cell_reach, clause_reach, leaves, length_of, range_reach, reach_of, reaches}
-use Rattle.pts_rules.specs.Mistyped.{call_right, cell_right, clause_right, form_right, initial_right, op_right, range_right, sum_right}
+use Rattle.pts_rules.specs.Known.{Scope, meaning_of, as_array, has, is_place, kind_of_array, natural, number, same_kind, sum_is, val_fits}
+use Rattle.pts_rules.specs.Indices.{Span, Along, cell_reach, clause_reach, leaves, length_of, range_reach, reach_of, reaches}
+use Rattle.pts_rules.specs.Mistyped.{cell_right, clause_right, form_right, initial_right, op_right, range_right, sum_right}
 use Rattle.pts_rules.specs.Parts.{Name, Simple, Throw, Assign, Call, Loop, statements}
 use Rattle.pts_rules.specs.Scopes.{known}
-use Rattle.pts_rules.specs.Steps.{goes_backward, is_backward}
+use Rattle.pts_rules.specs.Steps.{is_backward}
 use Rattle.pts_constants.specs.Resolved.{resolved_call, resolved_cell, resolved_clause, resolved_initial, resolved_range, resolved_sum}
 use Rattle.pts_constants.specs.Blocks.{blocks_of}
 use Rattle.pts_constants.specs.Texts.{texts_of}

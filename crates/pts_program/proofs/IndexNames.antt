@@ -1,5 +1,5 @@
 -- The names of an index that is a line: without its constants it names the loop index alone.
-use Rattle.std.proofs.Common.{◌≡◌, ℕ, Bool, true, false, if◌then◌else◌, Option, Some, None, List, [], ◌∷◌, ◌++◌, fold, map, option_and_then, ℤ, pos, refl, sym, ap, ◌∙◌, subst}
+use Rattle.std.proofs.Common.{◌≡◌, Bool, true, false, if◌then◌else◌, Option, Some, None, List, [], ◌∷◌, fold, map, ℤ, pos, refl, sym, ap, ◌∙◌, subst}
 use Rattle.std.specs.Prelude.{flat_map, int_lt, is_some, nat_abs, neg_ℤ}
 use Rattle.std.specs.Str.{bytes_eq}
 use Rattle.std.proofs.lemmas.Bool.{false≢true}
@@ -7,14 +7,14 @@ use Rattle.pts_types.specs.declared.operation.ScalarOp.{ScalarOp}
 use Rattle.pts_tree.specs.declared.expr.ChainPart.{ChainPart}
 use Rattle.pts_tree.specs.declared.expr.Expr.{Expr}
 use Rattle.pts_tree.specs.declared.expr.Expr.TheVariants as e
-use Rattle.pts_rules.specs.Indices.{Affine, Reading, affine_of, affine_reading, combined, minus_affine, name_reading, next_affine, number_reading, reading}
+use Rattle.pts_rules.specs.Indices.{Affine, Reading, affine_of, affine_reading, minus_affine, name_reading, next_affine, reading}
 use Rattle.pts_rules.specs.Known.{Scope, constant_of, has}
 use Rattle.pts_rules.specs.Parts.{Name, expr_names, is_among}
 use Rattle.pts_rules.proofs.ExprNames.{names-Chain, names-Minus, names-Name, names-Number, names-Paren}
-use Rattle.pts_rules.proofs.Readings.{link, reading-All, reading-Any, reading-Call, reading-Chain, reading-Compare, reading-Convert, reading-Element, reading-False, reading-If, reading-Minus, reading-Name, reading-Not, reading-Number, reading-Paren, reading-Throw, reading-True}
+use Rattle.pts_rules.proofs.Readings.{link, reading-All, reading-Any, reading-Call, reading-Chain, reading-Compare, reading-Convert, reading-Element, reading-False, reading-If, reading-Minus, reading-Name, reading-Not, reading-Paren, reading-Throw, reading-True}
 use Rattle.pts_constants.specs.Resolved.{constant_expr, minus_expr, named, number_expr, resolved_expr, resolved_part}
 use Rattle.pts_constants.proofs.Resolutions.{resolved-Chain, resolved-Minus, resolved-Name, resolved-Number, resolved-Paren}
-use Rattle.pts_code.proofs.Induction.{AllOf, AllParts, Forms, every}
+use Rattle.pts_code.proofs.Induction.{AllParts, Forms, every}
 use Rattle.pts_points.proofs.Each.{Each}
 use Rattle.pts_points.proofs.Each as each
 

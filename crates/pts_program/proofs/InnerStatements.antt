@@ -1,6 +1,6 @@
 -- What holds of every statement of an item holds of those of each block in it, with its constants and without.
-use Rattle.std.proofs.Common.{◌≡◌, ℕ, List, [], ◌∷◌, ◌++◌, map, sym, ap, ◌∙◌, subst}
-use Rattle.std.specs.Prelude.{All, flat_map}
+use Rattle.std.proofs.Common.{◌≡◌, ℕ, List, [], ◌∷◌, map, sym, ap, ◌∙◌, subst}
+use Rattle.std.specs.Prelude.{flat_map}
 use Rattle.pts_tree.specs.declared.block.Block.{Block, roll-Block, out-roll-Block, map-Block, ind-Block}
 use Rattle.pts_tree.specs.declared.block.TaskStmt.{TaskStmt, roll-TaskStmt}
 use Rattle.pts_tree.specs.declared.block.TaskStmt.TheOpen.{TaskStmt-F, Block-F}
@@ -14,8 +14,6 @@ use Rattle.pts_rules.proofs.Tasks.{task_statements, statements-Run, statements-B
 use Rattle.pts_constants.specs.Blocks.{info, inner_blocks, item_blocks, task_blocks}
 use Rattle.pts_constants.specs.Resolved.{resolved_block}
 use Rattle.pts_constants.specs.Texts.{text_of}
-use Rattle.pts_constants.specs.declared.infos.BlockInfo.{BlockInfo}
-use Rattle.pts_constants.specs.declared.texts.CallText.{CallText}
 use Rattle.pts_points.proofs.Each.{Each}
 use Rattle.pts_points.proofs.Each as each
 use Rattle.pts_program.specs.Namings.{HoldsIn, HoldsOf}

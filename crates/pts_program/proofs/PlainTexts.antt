@@ -1,24 +1,21 @@
 -- In what is left of a statement without constants every sum is one number.
-use Rattle.std.proofs.Common.{◌≡◌, ℕ, ◌+◌, Bool, true, false, ◌&&◌, IsTrue, Option, Some, None, option_map, List, [], ◌∷◌, ◌++◌, length, map, refl, sym, ap, ◌∙◌, subst}
-use Rattle.std.specs.Prelude.{All, flat_map}
+use Rattle.std.proofs.Common.{◌≡◌, ◌+◌, Bool, true, Option, Some, None, option_map, List, [], ◌∷◌, length, map, refl}
+use Rattle.std.specs.Prelude.{All}
 use Rattle.std.specs.List.{list_all}
 use Rattle.pts_tree.specs.Spelling.{if_there}
 use Rattle.pts_tree.specs.declared.sum.Val.{Val}
 use Rattle.pts_tree.specs.declared.sum.Val.TheVariants as vals
-use Rattle.pts_tree.specs.declared.block.Block.{Block}
 use Rattle.pts_tree.specs.declared.loops.Clause.{Clause}
 use Rattle.pts_tree.specs.declared.loops.Clause.TheVariants as clauses
 use Rattle.pts_tree.specs.declared.loops.Initial.{Initial}
 use Rattle.pts_tree.specs.declared.loops.Initial.TheVariants as initials
 use Rattle.pts_tree.specs.declared.script.Item.{Item}
 use Rattle.pts_rules.specs.Known.{Scope}
-use Rattle.pts_rules.specs.Parts.{Simple, Throw, Assign, Call, Loop, block_statements, statements}
+use Rattle.pts_rules.specs.Parts.{Simple, Throw, Assign, Call, Loop, statements}
 use Rattle.pts_rules.specs.Scopes.{known}
 use Rattle.pts_constants.specs.Blocks.{blocks_of}
-use Rattle.pts_constants.specs.Resolved.{resolved_block, resolved_cell, resolved_clause, resolved_initial, resolved_range, resolved_sum, resolved_val}
-use Rattle.pts_constants.specs.Texts.{text_of, texts_of}
-use Rattle.pts_constants.specs.declared.infos.BlockInfo.{BlockInfo}
-use Rattle.pts_constants.specs.declared.texts.CallText.{CallText}
+use Rattle.pts_constants.specs.Resolved.{resolved_cell, resolved_clause, resolved_initial, resolved_range, resolved_sum, resolved_val}
+use Rattle.pts_constants.specs.Texts.{texts_of}
 use Rattle.pts_points.proofs.Each.{Each}
 use Rattle.pts_points.proofs.Each as each
 use Rattle.pts_program.specs.declared.lists.Lists.{Lists}
@@ -28,9 +25,7 @@ use Rattle.pts_program.specs.Plain.{IsPlain, is_plain, plain_cell, plain_clause,
 use Rattle.pts_program.proofs.ItemTurns.{IsTurn, by_items}
 use Rattle.pts_program.proofs.InnerStatements.{Without, blocks_hold, texts_hold}
 use Rattle.pts_program.proofs.Replaced.{resolved_simple}
-
-both : (a b : Bool) → a ≡ true → b ≡ true → (a && b) ≡ true
-both a b h k = ap (λ x. x && b) h ∙ k
+use Rattle.pts_program.proofs.Truths.{both}
 
 -- what holds of each part that is made holds where there is one
 made : {A : Type 0} (f : A → A) (p : A → Bool) → ((x : A) → p (f x) ≡ true) → (o : Option A) → if_there p (option_map f o) ≡ true

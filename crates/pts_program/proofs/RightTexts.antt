@@ -1,5 +1,5 @@
 -- The texts of a program are right among the names of its arrays and functions.
-use Rattle.std.proofs.Common.{◌≡◌, ℕ, ◌+◌, ◌&&◌, true, false, IsTrue, Option, Some, None, List, [], ◌∷◌, ◌++◌, length, map, refl, sym, ap, ◌∙◌, subst, append-nil}
+use Rattle.std.proofs.Common.{◌≡◌, ◌+◌, ◌&&◌, true, Option, Some, None, List, [], ◌∷◌, ◌++◌, length, refl, ap, ◌∙◌, subst}
 use Rattle.std.specs.Prelude.{All, is_some}
 use Rattle.std.proofs.lemmas.Bool.{and_parts, or_parts, false≢true}
 use Rattle.std.proofs.lemmas.List.Elements.{All-head, All-tail}
@@ -8,8 +8,6 @@ use Rattle.pts_tree.specs.Expressions.{expr_allowed}
 use Rattle.pts_tree.specs.Scripts.{item_allowed}
 use Rattle.pts_tree.specs.declared.sum.Cell.{Cell}
 use Rattle.pts_tree.specs.declared.expr.Expr.{Expr}
-use Rattle.pts_tree.specs.declared.call.Call as call
-use Rattle.pts_tree.specs.declared.loops.Loop as loops
 use Rattle.pts_tree.specs.declared.script.Item.{Item}
 use Rattle.pts_tree.specs.declared.script.Item.TheVariants as items
 use Rattle.pts_rules.specs.declared.meaning.Meaning.{Meaning}
@@ -23,8 +21,6 @@ use Rattle.pts_rules.specs.Scopes.{after, known, signature}
 use Rattle.pts_constants.specs.Blocks.{blocks_of}
 use Rattle.pts_constants.specs.Resolved.{resolved_cell, resolved_expr}
 use Rattle.pts_constants.specs.Texts.{texts_of}
-use Rattle.pts_constants.specs.declared.texts.CallText.{CallText}
-use Rattle.pts_constants.specs.declared.texts.CallText.TheVariants as texts
 use Rattle.pts_points.specs.Inside.{IsSound}
 use Rattle.pts_points.proofs.Each.{Each}
 use Rattle.pts_points.proofs.Each as each
@@ -35,7 +31,7 @@ use Rattle.pts_program.proofs.Allowed.{Allowed, Apart, item_apart, item_has}
 use Rattle.pts_program.proofs.Declared.{known_more}
 use Rattle.pts_program.proofs.ItemTurns.{IsTurn, by_items}
 use Rattle.pts_program.proofs.Keeping.{Keeps}
-use Rattle.pts_program.proofs.KeptBodies.{AllShown, IsCarried, loop_still, outside, shown_apart}
+use Rattle.pts_program.proofs.KeptBodies.{IsCarried, loop_still, outside, shown_apart}
 use Rattle.pts_program.proofs.InnerStatements.{Without, blocks_hold, texts_hold}
 use Rattle.pts_program.proofs.KeptCalls.{Agrees, call_still, cell_still, kind_same}
 use Rattle.pts_program.proofs.KeptKinds.{resolved_fits}

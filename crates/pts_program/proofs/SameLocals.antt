@@ -1,5 +1,5 @@
 -- A loop has the same local names without constants.
-use Rattle.std.proofs.Common.{◌≡◌, ℕ, Option, Some, None, option_map, List, [], ◌∷◌, ◌++◌, map, refl, sym, ap, ◌∙◌}
+use Rattle.std.proofs.Common.{◌≡◌, Option, Some, None, option_map, List, [], ◌∷◌, ◌++◌, map, refl, sym, ap, ◌∙◌}
 use Rattle.std.specs.Prelude.{flat_map}
 use Rattle.pts_tree.specs.declared.loops.BodyStmt.{BodyStmt}
 use Rattle.pts_tree.specs.declared.loops.BodyStmt.TheVariants as b

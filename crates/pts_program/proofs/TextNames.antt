@@ -1,11 +1,10 @@
 -- The names of a program's texts are local ones or those of arrays and functions before them.
-use Rattle.std.proofs.Common.{◌≡◌, ℕ, ◌+◌, ◌≤◌, Bool, true, false, ◌&&◌, if◌then◌else◌, Option, Some, None, List, [], ◌∷◌, ◌++◌, fold, length, map, option_map, option_and_then, bytes_eq, take, ℤ, refl, sym, ap, ◌∙◌, subst, arith}
-use Rattle.std.specs.Prelude.{All, IsTrue, flat_map, is_none, is_some, option_to_list, ◌||◌}
+use Rattle.std.proofs.Common.{◌≡◌, ℕ, ◌+◌, ◌≤◌, Bool, true, false, ◌&&◌, if◌then◌else◌, Option, Some, None, List, [], ◌∷◌, ◌++◌, fold, length, map, option_map, option_and_then, bytes_eq, take, refl, sym, ap, ◌∙◌, subst, arith}
+use Rattle.std.specs.Prelude.{All, flat_map, is_none, is_some, option_to_list, ◌||◌}
 use Rattle.std.specs.List.{list_all, list_any}
 use Rattle.std.proofs.lemmas.Bool.{and_parts, or_parts, false≢true}
 use Rattle.std.proofs.lemmas.List.{append_assoc, length-append, take-append-le}
 use Rattle.std.proofs.Math.Seq.{take-append_seam}
-use Rattle.std.proofs.lemmas.List.Folds.{list_any-append}
 use Rattle.std.proofs.lemmas.Option.{none-some}
 use Rattle.std.proofs.lemmas.Slice.Eq.{bytes_eq-Decides}
 use Rattle.pts_types.specs.declared.value.Kind.{Kind}
@@ -32,11 +31,10 @@ use Rattle.pts_tree.specs.declared.loops.Loop as loops
 use Rattle.pts_tree.specs.declared.script.Item.{Item}
 use Rattle.pts_rules.specs.declared.meaning.Meaning.{Meaning}
 use Rattle.pts_rules.specs.declared.meaning.Meaning.TheVariants.{Constant, Array, Function, Value, View}
-use Rattle.pts_rules.specs.declared.meaning.Signature.{Signature}
 use Rattle.pts_rules.specs.Indices.{has_not_affine, index_not_affine, places}
 use Rattle.pts_rules.specs.Kinds.{fits}
 use Rattle.pts_rules.specs.Known.{Scope, as_array, as_constant, as_function, function_of, has, holds, is_place, kind_of_array, meaning_of, same_kind, sum_is, val_fits}
-use Rattle.pts_rules.specs.Mistyped.{body_scope, call_right, cell_right, checked_stmt, all_right, clause_entries, clause_right, form_right, function_right, initial_right, op_right, range_right, source_kinds, sum_right, target_right}
+use Rattle.pts_rules.specs.Mistyped.{body_scope, cell_right, checked_stmt, all_right, clause_entries, clause_right, form_right, function_right, initial_right, op_right, range_right, source_kinds, sum_right, target_right}
 use Rattle.pts_rules.specs.Names.{clash, has_repeat, meet, names_in}
 use Rattle.pts_rules.specs.Parts.{Name, Simple, Throw, Assign, Call, Loop, call_names, cell_names, clause_name, clause_names, expr_names, head_locals, initial_names, is_among, lets, loop_locals, names_of, op_names, range_names, statement_locals, statements, sum_names, val_names}
 use Rattle.pts_rules.specs.Scopes.{known}
@@ -44,7 +42,6 @@ use Rattle.pts_code.specs.declared.function.FunctionInfo.{FunctionInfo}
 use Rattle.pts_constants.specs.Resolved.{resolved_call, resolved_cell, resolved_clause, resolved_expr, resolved_initial, resolved_loop, resolved_range, resolved_stmt, resolved_sum, resolved_val}
 use Rattle.pts_constants.specs.Blocks.{blocks_of}
 use Rattle.pts_constants.specs.Texts.{texts_of}
-use Rattle.pts_constants.specs.declared.texts.CallText.{CallText}
 use Rattle.pts_points.proofs.Each.{Each}
 use Rattle.pts_points.proofs.Each as each
 use Rattle.pts_program.specs.declared.info.ArrayInfo.{ArrayInfo}
@@ -57,23 +54,14 @@ use Rattle.pts_program.proofs.InnerStatements.{Without, blocks_hold, texts_hold}
 use Rattle.pts_program.proofs.ItemTurns.{IsTurn, by_items}
 use Rattle.pts_program.proofs.Replaced.{resolved_simple}
 use Rattle.pts_program.proofs.KeptBodies.{value_local, view_local}
-use Rattle.pts_program.proofs.NamesApart.{apart_from, in_neither, meets_not, neither_in, not_true, unnamed}
+use Rattle.pts_program.proofs.NamesApart.{apart_from, in_back, in_front, in_neither, meets_not, neither_in, unnamed}
 use Rattle.pts_program.proofs.RightTexts.{IsReady, item_ready}
 use Rattle.pts_program.proofs.SameLocals.{heads_same, locals_same}
 use Rattle.pts_program.proofs.Shown.{AreShown, nothing_shown, shown_turn}
+use Rattle.pts_program.proofs.Truths.{not_true}
 use Rattle.pts_program.proofs.UsedNames.{Owns, fitting_names}
 
 -- ---- names among others
-
-in_front : (xs ys : List Name) (name : Name) → is_among name xs ≡ true → is_among name (xs ++ ys) ≡ true
-in_front xs ys name among = list_any-append (bytes_eq name) xs ys ∙ ap (λ b. b || is_among name ys) among
-
-or_true : (a b : Bool) → b ≡ true → (a || b) ≡ true
-or_true true b h = refl
-or_true false b h = h
-
-in_back : (xs ys : List Name) (name : Name) → is_among name ys ≡ true → is_among name (xs ++ ys) ≡ true
-in_back xs ys name among = list_any-append (bytes_eq name) xs ys ∙ or_true (is_among name xs) (is_among name ys) among
 
 -- each name is among all
 all_among : (front xs : List Name) → AreOf (front ++ xs) xs

@@ -1,6 +1,6 @@
 -- The names of an expression that fits somewhere and whose indices are lines: without its constants they are those of values,
 -- functions and arrays.
-use Rattle.std.proofs.Common.{◌≡◌, ℕ, Bool, true, false, ◌&&◌, not, if◌then◌else◌, Option, Some, None, List, [], ◌∷◌, ◌++◌, map, option_map, option_and_then, ℤ, pos, refl, sym, ap, ◌∙◌, subst}
+use Rattle.std.proofs.Common.{◌≡◌, true, false, Option, Some, None, List, [], ◌∷◌, ◌++◌, map, option_map, option_and_then, ℤ, refl, sym, ap, ◌∙◌, subst}
 use Rattle.std.specs.Prelude.{flat_map, is_none, is_some, unwrap_or}
 use Rattle.std.specs.Str.{bytes_eq}
 use Rattle.std.specs.List.{list_any}
@@ -9,7 +9,6 @@ use Rattle.std.proofs.lemmas.List.Folds.{list_any-append}
 use Rattle.std.proofs.lemmas.Option.{none-some}
 use Rattle.pts_types.specs.declared.value.Kind.{Kind}
 use Rattle.pts_types.specs.declared.value.Kind.TheVariants as kinds
-use Rattle.pts_types.specs.declared.operation.ScalarOp.{ScalarOp}
 use Rattle.pts_tree.specs.declared.expr.ChainPart.{ChainPart}
 use Rattle.pts_tree.specs.declared.expr.Expr.{Expr}
 use Rattle.pts_tree.specs.declared.expr.Expr.TheVariants as e
@@ -19,11 +18,11 @@ use Rattle.pts_rules.specs.declared.meaning.Meaning.TheVariants.{Constant, Array
 use Rattle.pts_rules.specs.declared.meaning.Signature.{Signature}
 use Rattle.pts_rules.specs.Indices.{affine_of, elements, index_not_affine}
 use Rattle.pts_rules.specs.Kinds.{Typing, typing, name_typing, call_typing, element_typing, minus_typing, arguments_fit, each_fits, sides_kind}
-use Rattle.pts_rules.specs.Known.{Scope, as_array, as_function, constant_of, has, kind_of_array, meaning_of}
+use Rattle.pts_rules.specs.Known.{Scope, as_array, as_function, constant_of, has, meaning_of}
 use Rattle.pts_rules.specs.Parts.{Name, expr_names, is_among}
 use Rattle.pts_rules.proofs.Elements.{elements-All, elements-Any, elements-Call, elements-Chain, elements-Compare, elements-Convert, elements-Element, elements-If, elements-Minus, elements-Not, elements-Paren}
 use Rattle.pts_rules.proofs.ExprNames.{names-All, names-Any, names-Call, names-Chain, names-Compare, names-Convert, names-Element, names-False, names-If, names-Not, names-Number, names-Paren, names-Throw, names-True}
-use Rattle.pts_rules.proofs.Typings.{typing-Number, typing-Name, typing-Call, typing-Element, typing-Convert, typing-Paren, typing-Minus, typing-Not, typing-Chain, typing-Compare, typing-All, typing-Any, typing-If, typing-True, typing-False, typing-Throw}
+use Rattle.pts_rules.proofs.Typings.{typing-Name, typing-Call, typing-Element, typing-Convert, typing-Paren, typing-Minus, typing-Not, typing-Chain, typing-Compare, typing-All, typing-Any, typing-If}
 use Rattle.pts_constants.specs.Resolved.{constant_expr, named, resolved_expr, resolved_part}
 use Rattle.pts_constants.proofs.Resolutions.{resolved-All, resolved-Any, resolved-Call, resolved-Chain, resolved-Compare, resolved-Convert, resolved-Element, resolved-False, resolved-If, resolved-Minus, resolved-Name, resolved-Not, resolved-Number, resolved-Paren, resolved-Throw, resolved-True}
 use Rattle.pts_code.proofs.Induction.{AllOf, AllParts, Forms, every}

@@ -1,5 +1,5 @@
 -- Ranges and cells that lie in their arrays.
-use Rattle.std.specs.Prelude.{◌≡◌, Option, Some, IfSome, All, List, length, pos, ◌≤ℤ◌, ◌<ℤ◌, [], ⊤}
+use Rattle.std.specs.Prelude.{◌≡◌, Some, IfSome, All, List, length, pos, ◌≤ℤ◌, ◌<ℤ◌, [], ⊤}
 use Rattle.pts_tree.specs.declared.sum.Range.{Range}
 use Rattle.pts_tree.specs.declared.sum.Cell.{Cell}
 use Rattle.pts_tree.specs.declared.call.Call as call

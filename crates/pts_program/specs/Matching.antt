@@ -1,5 +1,5 @@
 -- Lists of a program that go together by their numbers.
-use Rattle.std.specs.Prelude.{◌≡◌, ⊤, ℕ, ◌<◌, List, [], ◌∷◌, length, ◌-ℤ◌}
+use Rattle.std.specs.Prelude.{◌≡◌, ⊤, ◌<◌, List, [], ◌∷◌, length, ◌-ℤ◌}
 use Rattle.pts_rules.specs.Counts.{loop_positions}
 use Rattle.pts_rules.specs.Known.{natural, number}
 use Rattle.pts_constants.specs.declared.texts.CallText.{CallText}

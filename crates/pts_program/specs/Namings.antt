@@ -1,10 +1,10 @@
 -- Names of a program: those of its arrays and functions, and what its calls, loops and blocks name.
-use Rattle.std.specs.Prelude.{All, ◌≡◌, ℕ, ◌≤◌, Bool, true, false, IsTrue, if◌then◌else◌, Option, Some, None, List, [], ◌∷◌, ◌++◌, flat_map, map, take, length, pos}
+use Rattle.std.specs.Prelude.{All, ◌≡◌, ℕ, ◌≤◌, false, IsTrue, if◌then◌else◌, Option, Some, None, List, [], ◌∷◌, ◌++◌, flat_map, map, take, length, pos}
 use Rattle.std.specs.List.{list_all}
 use Rattle.std.specs.Str.{bytes_eq}
 use Rattle.pts_rules.specs.declared.meaning.Meaning.TheVariants.{Array}
 use Rattle.pts_rules.specs.Known.{Entry, Scope}
-use Rattle.pts_rules.specs.Names.{clash, has_repeat}
+use Rattle.pts_rules.specs.Names.{clash}
 use Rattle.pts_rules.specs.Mistyped.{statement_right}
 use Rattle.pts_tree.specs.declared.loops.Loop as loops
 use Rattle.pts_tree.specs.declared.loops.BodyStmt.{BodyStmt}

@@ -1,5 +1,5 @@
 -- Statements whose sums are numbers.
-use Rattle.std.specs.Prelude.{IsTrue, ℕ, Bool, true, false, ◌&&◌, List, [], ◌∷◌}
+use Rattle.std.specs.Prelude.{IsTrue, Bool, true, false, ◌&&◌, List, [], ◌∷◌}
 use Rattle.std.specs.List.{list_all}
 use Rattle.pts_tree.specs.Spelling.{if_there}
 use Rattle.pts_tree.specs.declared.sum.Atom.{Atom}
