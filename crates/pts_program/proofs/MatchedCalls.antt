@@ -1,6 +1,6 @@
 -- Each call has its text at its number, with its policy and its positions.
 use Rattle.std.proofs.Common.{◌≡◌, ℕ, zero, suc, ◌+◌, ◌&&◌, true, Option, Some, None, option_map, List, [], ◌∷◌, ◌++◌, length, map, slice_get, refl, sym, ap, subst, arith}
-use Rattle.std.specs.Prelude.{flat_map, ◌-ℤ◌, is_some}
+use Rattle.std.specs.Prelude.{⊤, flat_map, ◌-ℤ◌, is_some}
 use Rattle.std.proofs.lemmas.Bool.{and_parts}
 use Rattle.std.proofs.lemmas.List.{length-append, length-map}
 use Rattle.std.proofs.lemmas.Option.{none-some}
@@ -22,11 +22,17 @@ use Rattle.pts_points.specs.declared.point.CallInfo.{CallInfo}
 use Rattle.pts_points.specs.Points.{call_at, calls_from, calls_of, statement_piece}
 use Rattle.pts_program.specs.declared.lists.Lists.{Lists}
 use Rattle.pts_program.specs.Lists.{no_lists, start_of, IsProgram}
-use Rattle.pts_program.specs.Matching.{AreCallsOf, IsCallOf}
+use Rattle.pts_program.specs.Matching.{IsCallOf}
 use Rattle.pts_program.proofs.ExactSums.{exact_held, exact_place}
 use Rattle.pts_program.proofs.ItemTurns.{IsTurn, by_items}
 use Rattle.pts_program.proofs.RightTexts.{IsReady, item_ready}
 use Rattle.pts_points.proofs.Each.{Each}
+
+-- as many of the one as of the other, in one order
+abbrev AreCallsOf : List CallText → List CallInfo → Type 0
+AreCallsOf [] [] = ⊤
+AreCallsOf (t ∷ ts) (c ∷ cs) = IsCallOf t c × AreCallsOf ts cs
+AreCallsOf _ _ = ⊥
 
 -- ---- one statement
 
