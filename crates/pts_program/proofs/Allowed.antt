@@ -1,8 +1,8 @@
 -- What the grammar and the rule of names ask of each statement of an item.
-use Rattle.std.proofs.Common.{◌≡◌, ℕ, Bool, true, false, ◌&&◌, ◌||◌, List, [], ◌∷◌, ◌++◌, map, refl, sym, ap, ◌∙◌, subst}
+use Rattle.std.proofs.Common.{◌≡◌, Bool, true, false, List, [], ◌∷◌, ◌++◌, map, sym, ap, ◌∙◌, subst}
 use Rattle.std.specs.Prelude.{flat_map}
 use Rattle.std.specs.List.{list_all, list_any}
-use Rattle.std.proofs.lemmas.Bool.{and_parts, or_parts, false≢true}
+use Rattle.std.proofs.lemmas.Bool.{and_parts, or_parts}
 use Rattle.pts_tree.specs.Expressions.{expr_allowed}
 use Rattle.pts_tree.specs.Scripts.{item_allowed}
 use Rattle.pts_tree.specs.Spelling.{call_allowed}

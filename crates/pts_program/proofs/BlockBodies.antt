@@ -1,8 +1,8 @@
 -- The blocks of an item, with what the grammar and their spelling say of each.
-use Rattle.std.proofs.Common.{◌≡◌, ℕ, suc, ◌+◌, ◌-◌, ◌^◌, ◌<◌, ◌≤◌, Bool, true, false, ◌&&◌, not, IsTrue, List, [], ◌∷◌, ◌++◌, length, map, refl, sym, ap, ◌∙◌, subst, arith}
-use Rattle.std.specs.Prelude.{flat_map, filter, min}
+use Rattle.std.proofs.Common.{◌≡◌, ℕ, ◌+◌, ◌≤◌, Bool, true, List, [], ◌∷◌, ◌++◌, length, map, refl, sym, ap, ◌∙◌, subst, arith}
+use Rattle.std.specs.Prelude.{flat_map}
 use Rattle.std.specs.List.{list_all}
-use Rattle.std.proofs.lemmas.Bool.{and_parts, false≢true}
+use Rattle.std.proofs.lemmas.Bool.{and_parts}
 use Rattle.std.proofs.lemmas.List.{length-append}
 use Rattle.pts_tree.specs.declared.mark.Mark.TheVariants as m
 use Rattle.pts_tree.specs.declared.sum.Cell.{Cell}
@@ -11,7 +11,7 @@ use Rattle.pts_tree.specs.declared.call.Call.{Call}
 use Rattle.pts_tree.specs.declared.loops.Loop.{Loop}
 use Rattle.pts_tree.specs.Signs.{Sign, Mark}
 use Rattle.pts_tree.specs.Spelling.{Text, each}
-use Rattle.pts_tree.specs.Statements.{Phrase, Task, block, block_step, run_allowed, task, task_allowed, task_block, task_body, task_text, tstmt, whole_block}
+use Rattle.pts_tree.specs.Statements.{Phrase, Task, block, block_step, run_allowed, task, task_allowed, task_block, task_body, tstmt, whole_block}
 use Rattle.pts_tree.specs.declared.block.Block.{Block, out-Block, roll-Block, out-roll-Block, map-Block, ind-Block}
 use Rattle.pts_tree.specs.declared.block.TaskStmt.{TaskStmt, roll-TaskStmt}
 use Rattle.pts_tree.specs.declared.block.TaskStmt.TheOpen.{TaskStmt-F, Block-F}
@@ -34,15 +34,15 @@ joined : (xs : List TaskStmt) → flat_map {X = TaskStmt × List Block} (λ y. y
 joined [] = refl
 joined (x ∷ xs) = ap (λ ys. task_blocks x ++ ys) (joined xs)
 
-blocks-Run : (xs : List TaskStmt) → task_blocks (t.Run xs) ≡ flat_map task_blocks xs
+pub blocks-Run : (xs : List TaskStmt) → task_blocks (t.Run xs) ≡ flat_map task_blocks xs
 unfolding task_blocks
 blocks-Run xs = ap task_blocks (sym (t.rolls-Run xs)) ∙ para-roll-TaskStmt (List Block) (List Block) inner_step body_blocks (TaskStmt-F.Run xs) ∙ joined xs
 
-blocks-Block : (x : Block) → task_blocks (t.Block x) ≡ x ∷ inner_blocks x
+pub blocks-Block : (x : Block) → task_blocks (t.Block x) ≡ x ∷ inner_blocks x
 unfolding task_blocks inner_blocks
 blocks-Block x = ap task_blocks (sym (t.rolls-Block x)) ∙ para-roll-TaskStmt (List Block) (List Block) inner_step body_blocks (TaskStmt-F.Block x)
 
-blocks-body : (x : Block) → inner_blocks x ≡ flat_map task_blocks x.body
+pub blocks-body : (x : Block) → inner_blocks x ≡ flat_map task_blocks x.body
 unfolding task_blocks inner_blocks
 blocks-body x = ap inner_blocks (sym (roll-out-Block x)) ∙ para-roll-Block (List Block) (List Block) inner_step body_blocks (out-Block x) ∙ joined x.body
 
@@ -123,23 +123,23 @@ spelled x f is h = subst (λ (g : Text). 1 ≤ length (g [])) (sym is) h
 
 -- ---- each form
 
-blocks-Wait : task_blocks t.Wait ≡ []
+pub blocks-Wait : task_blocks t.Wait ≡ []
 unfolding task_blocks
 blocks-Wait = ap task_blocks (sym t.rolls-Wait) ∙ para-roll-TaskStmt (List Block) (List Block) inner_step body_blocks TaskStmt-F.Wait
 
-blocks-Throw : (n : ℕ) → task_blocks (t.Throw n) ≡ []
+pub blocks-Throw : (n : ℕ) → task_blocks (t.Throw n) ≡ []
 unfolding task_blocks
 blocks-Throw n = ap task_blocks (sym (t.rolls-Throw n)) ∙ para-roll-TaskStmt (List Block) (List Block) inner_step body_blocks (TaskStmt-F.Throw n)
 
-blocks-Assign : (at : Cell) (x : Expr) → task_blocks (t.Assign at x) ≡ []
+pub blocks-Assign : (at : Cell) (x : Expr) → task_blocks (t.Assign at x) ≡ []
 unfolding task_blocks
 blocks-Assign at x = ap task_blocks (sym (t.rolls-Assign at x)) ∙ para-roll-TaskStmt (List Block) (List Block) inner_step body_blocks (TaskStmt-F.Assign at x)
 
-blocks-Call : (x : Call) → task_blocks (t.Call x) ≡ []
+pub blocks-Call : (x : Call) → task_blocks (t.Call x) ≡ []
 unfolding task_blocks
 blocks-Call x = ap task_blocks (sym (t.rolls-Call x)) ∙ para-roll-TaskStmt (List Block) (List Block) inner_step body_blocks (TaskStmt-F.Call x)
 
-blocks-Loop : (x : Loop) → task_blocks (t.Loop x) ≡ []
+pub blocks-Loop : (x : Loop) → task_blocks (t.Loop x) ≡ []
 unfolding task_blocks
 blocks-Loop x = ap task_blocks (sym (t.rolls-Loop x)) ∙ para-roll-TaskStmt (List Block) (List Block) inner_step body_blocks (TaskStmt-F.Loop x)
 

@@ -1,17 +1,12 @@
 -- In the body of each block of a program runs stand alone, and all runs and waits are counted.
-use Rattle.std.proofs.Common.{◌≡◌, ℕ, suc, ◌+◌, ◌-◌, ◌^◌, ◌<◌, ◌≤◌, Bool, true, false, cond, ◌&&◌, not, IsTrue, List, [], ◌∷◌, ◌++◌, length, map, refl, sym, ap, ◌∙◌, subst, arith}
-use Rattle.std.specs.Prelude.{All, flat_map, filter, min}
+use Rattle.std.proofs.Common.{◌≡◌, ℕ, suc, ◌+◌, ◌-◌, ◌^◌, ◌<◌, ◌≤◌, Bool, true, false, cond, ◌&&◌, not, List, [], ◌∷◌, length, map, refl, sym, ap, ◌∙◌, subst, arith}
+use Rattle.std.specs.Prelude.{All, filter, min}
 use Rattle.std.specs.List.{list_all}
 use Rattle.std.proofs.lemmas.Bool.{and_parts, false≢true}
-use Rattle.std.proofs.lemmas.List.{length-map}
 use Rattle.pts_tree.specs.Statements.{Task, run_allowed, task, task_allowed, block}
-use Rattle.pts_tree.specs.declared.sum.Cell.{Cell}
-use Rattle.pts_tree.specs.declared.expr.Expr.{Expr}
-use Rattle.pts_tree.specs.declared.call.Call.{Call}
-use Rattle.pts_tree.specs.declared.loops.Loop.{Loop}
-use Rattle.pts_tree.specs.declared.block.Block.{Block, roll-Block, map-Block, ind-Block}
+use Rattle.pts_tree.specs.declared.block.Block.{Block}
 use Rattle.pts_tree.specs.declared.block.TaskStmt.{TaskStmt, roll-TaskStmt}
-use Rattle.pts_tree.specs.declared.block.TaskStmt.TheOpen.{TaskStmt-F, Block-F}
+use Rattle.pts_tree.specs.declared.block.TaskStmt.TheOpen.{TaskStmt-F}
 use Rattle.pts_tree.specs.declared.block.TaskStmt.TheVariants as t
 use Rattle.pts_tree.specs.declared.block.TaskStmt.TheViews.{out-TaskStmt, roll-out-TaskStmt}
 use Rattle.pts_tree.specs.declared.script.Item.{Item}
@@ -19,21 +14,18 @@ use Rattle.pts_tree.specs.declared.script.Item.TheVariants as items
 use Rattle.pts_tree.proofs.Tasks as tasks
 use Rattle.pts_rules.specs.Known.{Scope}
 use Rattle.pts_rules.specs.Scopes.{known}
-use Rattle.pts_constants.specs.Blocks.{info, inner_blocks, is_run, is_wait, item_blocks, run_form, wait_form}
+use Rattle.pts_constants.specs.Blocks.{info, inner_blocks, is_run, is_wait, item_blocks}
 use Rattle.pts_constants.specs.Resolved.{resolved_block, resolved_call, resolved_cell, resolved_expr, resolved_loop, resolved_task}
-use Rattle.pts_constants.specs.declared.infos.BlockInfo.{BlockInfo}
 use Rattle.pts_constants.proofs.BlockForms.{run-Run, run-Wait, run-Throw, run-Assign, run-Call, run-Loop, run-Block, wait-Run, wait-Wait, wait-Throw, wait-Assign, wait-Call, wait-Loop, wait-Block}
 use Rattle.pts_constants.proofs.ResolvedStatements.{task-Run, task-Wait, task-Throw, task-Assign, task-Call, task-Loop, task-Block, task-body}
 use Rattle.pts_points.proofs.Each.{Each}
 use Rattle.pts_points.proofs.Each as each_of
 use Rattle.pts_program.specs.declared.lists.Lists.{Lists}
 use Rattle.pts_program.specs.Bodies.{IsBlockBody, run_form_right, run_right, stands_in_run}
-use Rattle.pts_program.specs.Lists.{no_lists, IsProgram}
+use Rattle.pts_program.specs.Lists.{IsProgram}
 use Rattle.pts_program.proofs.BlockBodies.{Good, blocks_good, blocks_short}
 use Rattle.pts_program.proofs.ItemTurns.{IsTurn, IsWritten, by_items}
-
-both : (a b : Bool) → a ≡ true → b ≡ true → (a && b) ≡ true
-both a b h k = ap (λ x. x && b) h ∙ k
+use Rattle.pts_program.proofs.Truths.{both}
 
 stands : (x : TaskStmt) (a b : Bool) → is_run x ≡ a → is_wait x ≡ b → (not a && not b) ≡ true → stands_in_run x ≡ true
 stands x a b run wait h = (λ i. not (run i) && not (wait i)) ∙ h

@@ -1,12 +1,11 @@
 -- Of no sum in a statement of a script that breaks no rule is anything cut.
-use Rattle.std.proofs.Common.{◌≡◌, ℕ, zero, suc, ◌+◌, ◌-◌, ◌≤◌, Bool, true, false, ◌&&◌, Option, Some, None, List, [], ◌∷◌, ◌++◌, length, map, take, slice_get, refl, sym, ap, ◌∙◌, subst, arith}
+use Rattle.std.proofs.Common.{◌≡◌, ℕ, zero, suc, Bool, true, ◌&&◌, Option, Some, None, List, [], ◌∷◌, ◌++◌, slice_get, refl}
 use Rattle.std.specs.Prelude.{All, IfSome, flat_map, is_none, is_some}
 use Rattle.std.specs.List.{list_all}
 use Rattle.std.proofs.lemmas.Bool.{and_parts, false≢true}
 use Rattle.pts_types.specs.declared.value.Kind.{Kind}
 use Rattle.pts_types.specs.declared.value.Kind.TheVariants as kinds
 use Rattle.pts_tree.specs.Spelling.{has_parts, if_there}
-use Rattle.pts_tree.specs.Scripts.{item_allowed}
 use Rattle.pts_tree.specs.declared.sum.Sum.{Sum}
 use Rattle.pts_tree.specs.declared.sum.Val.{Val}
 use Rattle.pts_tree.specs.declared.sum.Val.TheVariants as vals
@@ -21,10 +20,9 @@ use Rattle.pts_tree.specs.declared.loops.Clause.TheVariants as clauses
 use Rattle.pts_tree.specs.declared.loops.ReduceClause.{ReduceClause}
 use Rattle.pts_tree.specs.declared.loops.Initial.{Initial}
 use Rattle.pts_tree.specs.declared.loops.Initial.TheVariants as initials
-use Rattle.pts_tree.specs.declared.script.Item.{Item}
 use Rattle.pts_tree.specs.declared.script.Script.{Script}
 use Rattle.pts_rules.specs.Known.{Scope, has, holds, is_place, kind_of_array, same_kind, sum_is, val_fits}
-use Rattle.pts_rules.specs.Mistyped.{call_right, cell_right, clause_right, form_right, function_right, initial_right, op_right, range_right, source_kinds, statement_right, sum_right, target_right}
+use Rattle.pts_rules.specs.Mistyped.{cell_right, clause_right, form_right, function_right, initial_right, op_right, range_right, source_kinds, sum_right, target_right}
 use Rattle.pts_rules.specs.Parts.{Simple, Throw, Assign, Call, Loop, statements}
 use Rattle.pts_rules.specs.Scopes.{known}
 use Rattle.pts_syntax.specs.Syntax.{IsSpelled}

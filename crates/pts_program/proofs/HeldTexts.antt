@@ -1,19 +1,16 @@
 -- The ranges and cells of a program's texts lie in their arrays.
-use Rattle.std.proofs.Common.{◌≡◌, ℕ, ◌+◌, ◌*◌, ◌<◌, Bool, true, false, ◌&&◌, if◌then◌else◌, Option, Some, None, option_map, option_and_then, List, [], ◌∷◌, ◌++◌, length, map, ℤ, pos, refl, sym, ap, ◌∙◌, subst, arith}
+use Rattle.std.proofs.Common.{◌≡◌, ℕ, ◌+◌, Bool, true, false, ◌&&◌, Option, Some, None, option_map, option_and_then, List, [], ◌∷◌, ◌++◌, length, map, ℤ, pos, refl, sym, ap, ◌∙◌, subst, arith}
 use Rattle.std.specs.Prelude.{All, IfSome, flat_map, is_none, is_some, int_le, int_lt, ◌≤ℤ◌, ◌<ℤ◌, ◌+ℤ◌, ◌-ℤ◌, ◌*ℤ◌, ◌==◌, ◌||◌}
-use Rattle.std.specs.List.{list_all, list_any}
+use Rattle.std.specs.List.{list_all}
 use Rattle.std.proofs.lemmas.Bool.{and_parts, or_parts, false≢true}
 use Rattle.std.proofs.lemmas.Int.{ints}
-use Rattle.std.proofs.lemmas.Option.{none-some}
 use Rattle.pts_types.specs.Arithmetic.{greatest_i64}
 use Rattle.pts_types.specs.declared.value.Kind.{Kind}
 use Rattle.pts_types.specs.declared.value.Kind.TheVariants as kinds
-use Rattle.pts_affine.specs.declared.line.Line.{Line}
-use Rattle.pts_affine.specs.Lines.{cell}
 use Rattle.pts_tree.specs.Spelling.{has_parts, if_there}
-use Rattle.pts_tree.specs.declared.sum.Sum.{Sum}
 use Rattle.pts_tree.specs.declared.sum.Range.{Range}
 use Rattle.pts_tree.specs.declared.sum.Cell.{Cell}
+use Rattle.pts_tree.specs.declared.expr.Expr.{Expr}
 use Rattle.pts_tree.specs.declared.call.Call as call
 use Rattle.pts_tree.specs.declared.call.CallForm.{CallForm}
 use Rattle.pts_tree.specs.declared.call.CallForm.TheVariants as forms
@@ -25,27 +22,31 @@ use Rattle.pts_tree.specs.declared.loops.Initial.TheVariants as initials
 use Rattle.pts_tree.specs.declared.script.Item.{Item}
 use Rattle.pts_rules.specs.declared.meaning.Meaning.{Meaning}
 use Rattle.pts_rules.specs.declared.meaning.Meaning.TheVariants.{Constant, Array, Function, Value, View}
-use Rattle.pts_rules.specs.Known.{Scope, meaning_of, array_of, as_array, has, is_place, kind_of_array, natural, number, same_kind, sum_is, val_fits}
-use Rattle.pts_rules.specs.Indices.{Reach, Span, Along, cell_reach, clause_reach, leaves, length_of, range_reach, reach_of, reaches}
-use Rattle.pts_rules.specs.Mistyped.{call_right, cell_right, clause_right, form_right, initial_right, op_right, range_right, sum_right}
+use Rattle.pts_rules.specs.Kinds.{fits}
+use Rattle.pts_rules.specs.Known.{Scope, meaning_of, as_array, has, is_place, kind_of_array, natural, number, same_kind, sum_is, val_fits}
+use Rattle.pts_rules.specs.Indices.{Span, Along, cell_reach, clause_reach, leaves, length_of, range_reach, reach_of, reaches}
+use Rattle.pts_rules.specs.Mistyped.{cell_right, clause_right, form_right, initial_right, op_right, range_right, sum_right}
 use Rattle.pts_rules.specs.Parts.{Name, Simple, Throw, Assign, Call, Loop, statements}
 use Rattle.pts_rules.specs.Scopes.{known}
-use Rattle.pts_rules.specs.Steps.{goes_backward, is_backward}
+use Rattle.pts_rules.specs.Steps.{is_backward}
 use Rattle.pts_constants.specs.Resolved.{resolved_call, resolved_cell, resolved_clause, resolved_initial, resolved_range, resolved_sum}
-use Rattle.pts_constants.specs.Texts.{text_of, texts_of}
+use Rattle.pts_constants.specs.Blocks.{blocks_of}
+use Rattle.pts_constants.specs.Texts.{texts_of}
+use Rattle.pts_constants.specs.declared.infos.BlockInfo.{BlockInfo}
 use Rattle.pts_constants.specs.declared.texts.CallText.{CallText}
-use Rattle.pts_constants.specs.declared.texts.CallText.TheVariants as texts
 use Rattle.pts_points.proofs.Each.{Each}
 use Rattle.pts_points.proofs.Each as each
 use Rattle.pts_points.proofs.Interiors.{Stays, each_stays}
 use Rattle.pts_points.proofs.Ranges.{in_array}
 use Rattle.pts_program.specs.declared.info.ArrayInfo.{ArrayInfo}
 use Rattle.pts_program.specs.declared.lists.Lists.{Lists}
-use Rattle.pts_program.specs.Holdings.{HoldsCall, HoldsCell, HoldsClause, HoldsInitial, HoldsRange, HoldsText}
+use Rattle.pts_program.specs.Holdings.{HoldsCall, HoldsCell, HoldsClause, HoldsInitial, HoldsRange, HoldsStatement}
 use Rattle.pts_program.specs.Lists.{arrays_of, no_lists, IsProgram}
-use Rattle.pts_program.specs.Namings.{array_named}
+use Rattle.pts_program.specs.Namings.{HoldsIn, HoldsOf, array_named, as_statement}
 use Rattle.pts_program.proofs.ExactSums.{exact_place, tested}
+use Rattle.pts_program.proofs.InnerStatements.{Without, blocks_hold, texts_hold}
 use Rattle.pts_program.proofs.ItemTurns.{IsTurn, by_items}
+use Rattle.pts_program.proofs.Replaced.{resolved_simple}
 use Rattle.pts_program.proofs.RightTexts.{IsReady, item_ready}
 use Rattle.pts_program.proofs.Shown.{AreShown, IsArray, nothing_shown, shown_turn, still_named}
 
@@ -221,20 +222,24 @@ module _ (scope : Scope) (arrays : List ArrayInfo) (shown : (name : Name) (kind 
         clauses_held xs parts.1 (each.back Stays (clause_reach scope x) (flat_map (clause_reach scope) xs) stays),
       )
 
-  -- ---- texts
+  -- ---- statements
 
-  text_held : (s : Simple) → IsReady scope s → Each (HoldsText arrays) (text_of scope s)
-  text_held (Throw n) h = tt
-  text_held (Assign at x) h = tt
-  text_held (Call x) h = (call_held x h, tt)
-  text_held (Loop x) h =
+  assign_held : (at : Cell) (x : Expr) (o : Option Kind) → has (λ kind. cell_right scope kind at && fits true scope kind x) o ≡ true → is_cell at ≡ true
+  assign_held at x None h = absurd (false≢true h)
+  assign_held at x (Some kind) h = right_cell kind at (and_parts _ _ h).0
+
+  statement_held : (s : Simple) → IsReady scope s → HoldsStatement arrays (resolved_simple scope s)
+  statement_held (Throw n) h = tt
+  statement_held (Assign at x) h =
+      cell_held at (assign_held at x (kind_of_array scope at.array) h.sound.right) (each.front Stays (cell_reach scope at) _ (each_stays (reaches scope (Assign at x)) h.sound.stays))
+  statement_held (Call x) h = call_held x h
+  statement_held (Loop x) h =
       let right = (and_parts _ (list_all (clause_right scope) x.clauses) (and_parts _ _ h.sound.right).0).1 in
       let all = each_stays (reaches scope (Loop x)) h.sound.stays in
-      (each.all_of (HoldsClause arrays) (map (resolved_clause scope) x.clauses) (clauses_held x.clauses right (each.front Stays (flat_map (clause_reach scope) x.clauses) _ all)), tt)
+      each.all_of (HoldsClause arrays) (map (resolved_clause scope) x.clauses) (clauses_held x.clauses right (each.front Stays (flat_map (clause_reach scope) x.clauses) _ all))
 
-  texts_held : (ss : List Simple) → Each (IsReady scope) ss → Each (HoldsText arrays) (flat_map (text_of scope) ss)
-  texts_held [] h = tt
-  texts_held (s ∷ ss) h = each.both (HoldsText arrays) (text_of scope s) (flat_map (text_of scope) ss) (text_held s h.0) (texts_held ss h.1)
+  all_held : (ss : List Simple) → Each (IsReady scope) ss → Each (Without (HoldsStatement arrays) scope) ss
+  all_held ss h = each.weaker (IsReady scope) (Without (HoldsStatement arrays) scope) statement_held ss h
 
 -- ---- more arrays
 
@@ -257,34 +262,52 @@ module _ (arrays more : List ArrayInfo) where
       by_initial (initials.Val y) h = h
       by_initial (initials.Cell y) h = cell_stays y h
 
-  text_stays : (x : CallText) → HoldsText arrays x → HoldsText (arrays ++ more) x
-  text_stays (texts.Call x) h = record {
+  statement_stays : (x : Simple) → HoldsStatement arrays x → HoldsStatement (arrays ++ more) x
+  statement_stays (Throw n) h = tt
+  statement_stays (Assign at x) h = cell_stays at h
+  statement_stays (Call x) h = record {
     first = range_stays x.first h.first;
     second = if_stays (HoldsRange arrays) (HoldsRange (arrays ++ more)) range_stays x.second h.second;
     target = if_stays (HoldsRange arrays) (HoldsRange (arrays ++ more)) range_stays x.target h.target;
     store = if_stays (HoldsCell arrays) (HoldsCell (arrays ++ more)) cell_stays x.store h.store;
   }
-  text_stays (texts.Loop x) h = λ k d within. clause_stays _ (h k d within)
+  statement_stays (Loop x) h = λ k d within. clause_stays _ (h k d within)
+
+  text_stays : (x : CallText) → HoldsOf (HoldsStatement arrays) x → HoldsOf (HoldsStatement (arrays ++ more)) x
+  text_stays x h = statement_stays (as_statement x) h
+
+  block_stays : (x : BlockInfo) → HoldsIn (HoldsStatement arrays) x → HoldsIn (HoldsStatement (arrays ++ more)) x
+  block_stays x h = λ k d within. statement_stays _ (h k d within)
 
 -- ---- all items
 
 record AreHeld (before : List Item) (lists : Lists) : Type 0 where
   pub shown : AreShown (known before) lists.arrays lists.functions
-  pub texts : Each (HoldsText lists.arrays) lists.texts
+  pub texts : Each (HoldsOf (HoldsStatement lists.arrays)) lists.texts
+  pub blocks : Each (HoldsIn (HoldsStatement lists.arrays)) lists.blocks
 
 held_turn : IsTurn AreHeld
-held_turn before x lists keeps written h = record {
-  shown = shown_turn before x lists keeps written h.shown;
-  texts =
-      let more = arrays_of (known before) x in
-      let all = lists.texts ++ texts_of (known before) x in
-      each.weaker (HoldsText lists.arrays) (HoldsText (lists.arrays ++ more)) (text_stays lists.arrays more) all
-      (each.both (HoldsText lists.arrays) lists.texts (texts_of (known before) x) h.texts
-      (texts_held (known before) lists.arrays h.shown.arrays_shown (statements x) (item_ready before x keeps written.allowed)));
-}
+held_turn before x lists keeps written h =
+    let scope = known before in
+    let more = arrays_of scope x in
+    let P = HoldsStatement lists.arrays in
+    let Q = HoldsStatement (lists.arrays ++ more) in
+    let own = all_held scope lists.arrays h.shown.arrays_shown (statements x) (item_ready before x keeps written.allowed) in
+    record {
+      shown = shown_turn before x lists keeps written h.shown;
+      texts =
+          each.weaker (HoldsOf P) (HoldsOf Q) (text_stays lists.arrays more) (lists.texts ++ texts_of scope x)
+          (each.both (HoldsOf P) lists.texts (texts_of scope x) h.texts (texts_hold P scope (statements x) own));
+      blocks =
+          each.weaker (HoldsIn P) (HoldsIn Q) (block_stays lists.arrays more) (lists.blocks ++ blocks_of scope (length before + 1) x)
+          (each.both (HoldsIn P) lists.blocks (blocks_of scope (length before + 1) x) h.blocks (blocks_hold P scope (length before + 1) x own));
+    }
 
 nothing_held : AreHeld [] no_lists
-nothing_held = record { shown = nothing_shown; texts = tt }
+nothing_held = record { shown = nothing_shown; texts = tt; blocks = tt }
 
-pub texts_in_arrays : (lists : Lists) → IsProgram lists → All (HoldsText lists.arrays) lists.texts
-texts_in_arrays lists h = each.all_of (HoldsText lists.arrays) lists.texts (by_items AreHeld held_turn nothing_held lists h).texts
+pub texts_in_arrays : (lists : Lists) → IsProgram lists → All (HoldsOf (HoldsStatement lists.arrays)) lists.texts
+texts_in_arrays lists h = each.all_of (HoldsOf (HoldsStatement lists.arrays)) lists.texts (by_items AreHeld held_turn nothing_held lists h).texts
+
+pub blocks_in_arrays : (lists : Lists) → IsProgram lists → All (HoldsIn (HoldsStatement lists.arrays)) lists.blocks
+blocks_in_arrays lists h = each.all_of (HoldsIn (HoldsStatement lists.arrays)) lists.blocks (by_items AreHeld held_turn nothing_held lists h).blocks

@@ -1,21 +1,18 @@
 -- Loops that are right are right without constants, where their arrays and functions are known.
 use Rattle.std.specs.Prelude.{◌||◌, unwrap_or}
-use Rattle.std.proofs.Common.{◌≡◌, ℕ, Bool, true, false, ◌&&◌, if◌then◌else◌, IsTrue, Option, Some, None, List, [], ◌∷◌, ◌++◌, fold, map, option_map, option_and_then, bytes_eq, ℤ, refl, sym, ap, ◌∙◌, subst}
+use Rattle.std.proofs.Common.{◌≡◌, ℕ, Bool, true, false, ◌&&◌, if◌then◌else◌, Option, Some, None, List, [], ◌∷◌, ◌++◌, fold, map, option_map, option_and_then, bytes_eq, refl, sym, ap, ◌∙◌, subst}
 use Rattle.std.specs.Prelude.{flat_map}
-use Rattle.std.specs.List.{list_all, list_any}
-use Rattle.std.proofs.lemmas.Bool.{and_parts, or_parts, false≢true}
+use Rattle.std.specs.List.{list_all}
+use Rattle.std.proofs.lemmas.Bool.{and_parts, false≢true}
 use Rattle.std.proofs.lemmas.Option.{none-some}
-use Rattle.std.proofs.lemmas.List.Folds.{list_any-append}
 use Rattle.std.proofs.lemmas.Slice.Eq.{bytes_eq-Decides}
 use Rattle.pts_types.specs.declared.value.Kind.{Kind}
 use Rattle.pts_types.specs.declared.value.Kind.TheVariants as kinds
-use Rattle.pts_types.specs.declared.operation.ScalarOp.{ScalarOp}
 use Rattle.pts_tree.specs.Spelling.{if_there}
 use Rattle.pts_tree.specs.declared.sum.Sum.{Sum}
 use Rattle.pts_tree.specs.Expressions.{expr_allowed}
-use Rattle.pts_tree.specs.Statements.{Phrase, clause_allowed, bstmt_allowed, loop_allowed, phrase, phrase_allowed, upd_mark}
+use Rattle.pts_tree.specs.Statements.{Phrase, bstmt_allowed, loop_allowed, phrase, phrase_allowed}
 use Rattle.pts_tree.specs.declared.expr.Expr.{Expr}
-use Rattle.pts_tree.specs.declared.expr.Place.{Place}
 use Rattle.pts_tree.specs.declared.loops.BodyStmt.{BodyStmt}
 use Rattle.pts_tree.specs.declared.loops.BodyStmt.TheVariants as b
 use Rattle.pts_tree.specs.declared.loops.Clause.{Clause}
@@ -24,9 +21,8 @@ use Rattle.pts_tree.specs.declared.loops.Loop as loops
 use Rattle.pts_tree.proofs.Phrases.{phrase-Assign, phrase-Let, phrase-Combine, phrase-If, phrase-VecOff, phrase-Ordered, phrases}
 use Rattle.pts_rules.specs.declared.meaning.Meaning.{Meaning}
 use Rattle.pts_rules.specs.declared.meaning.Meaning.TheVariants.{Constant, Array, Function, Value, View}
-use Rattle.pts_rules.specs.declared.meaning.Signature.{Signature}
 use Rattle.pts_rules.specs.Kinds.{fits, let_kind}
-use Rattle.pts_rules.specs.Known.{Entry, Scope, meaning_of, as_array, as_constant, as_function, as_view, constant_of, has, holds, is_number, kind_of_array, sum_is, view_of}
+use Rattle.pts_rules.specs.Known.{Scope, meaning_of, as_array, as_constant, as_function, as_view, constant_of, has, holds, is_number, kind_of_array, sum_is, view_of}
 use Rattle.pts_rules.specs.Mistyped.{Checked, all_right, body_scope, checked_stmt, clause_entries, clause_right, loop_right}
 use Rattle.pts_rules.specs.Names.{meet, names_in}
 use Rattle.pts_rules.specs.Parts.{Name, clause_name, head_locals, is_among, lets, loop_locals, names_of}
@@ -37,10 +33,8 @@ use Rattle.pts_program.proofs.BodyForms.{AllStmts, IfStmts, StmtForms, all_of_th
 use Rattle.pts_program.proofs.ExactSums.{still_holds}
 use Rattle.pts_program.proofs.KeptCalls.{Agrees, clauses_still, entries_same}
 use Rattle.pts_program.proofs.KeptKinds.{Carries, plain, resolved_fits, resolved_own}
-use Rattle.pts_program.proofs.NamesApart.{apart_from, in_neither, unnamed}
-
-both : (a b : Bool) → a ≡ true → b ≡ true → (a && b) ≡ true
-both a b h k = ap (λ x. x && b) h ∙ k
+use Rattle.pts_program.proofs.NamesApart.{apart_from, in_back, in_front, in_neither, unnamed}
+use Rattle.pts_program.proofs.Truths.{both}
 
 -- the names of a place in a loop, with its constants and without
 pub record IsCarried (scope outer names : Scope) : Type 0 where
@@ -62,15 +56,15 @@ outside scope names no_values no_views agrees = record {
 }
 
 -- a local name
-record IsLocal (m : Meaning) : Type 0 where
+pub record IsLocal (m : Meaning) : Type 0 where
   pub constant : as_constant m ≡ None
   pub array : as_array m ≡ None
   pub function : as_function m ≡ None
 
-value_local : (kind : Kind) → IsLocal (Value kind)
+pub value_local : (kind : Kind) → IsLocal (Value kind)
 value_local kind = record { constant = refl; array = refl; function = refl }
 
-view_local : (kind : Kind) → IsLocal (View kind)
+pub view_local : (kind : Kind) → IsLocal (View kind)
 view_local kind = record { constant = refl; array = refl; function = refl }
 
 -- one more, that is the name of no constant
@@ -116,21 +110,11 @@ module _ (outer : Scope) where
   abbrev pub AllShown : List Name → Type 0
   AllShown xs = (name : Name) → is_among name xs ≡ true → constant_of outer name ≡ None
 
-  in_front : (xs ys : List Name) (name : Name) → is_among name xs ≡ true → is_among name (xs ++ ys) ≡ true
-  in_front xs ys name among = list_any-append (bytes_eq name) xs ys ∙ ap (λ b. b || is_among name ys) among
-
-  behind : (xs ys : List Name) (name : Name) → is_among name ys ≡ true → is_among name (xs ++ ys) ≡ true
-  behind xs ys name among = list_any-append (bytes_eq name) xs ys ∙ or_true (is_among name xs) (is_among name ys) among
-    where
-      or_true : (a b : Bool) → b ≡ true → (a || b) ≡ true
-      or_true true b h = refl
-      or_true false b h = h
-
   front_shown : (xs ys : List Name) → AllShown (xs ++ ys) → AllShown xs
   front_shown xs ys h name among = h name (in_front xs ys name among)
 
   rest_shown : (xs ys : List Name) → AllShown (xs ++ ys) → AllShown ys
-  rest_shown xs ys h name among = h name (behind xs ys name among)
+  rest_shown xs ys h name among = h name (in_back xs ys name among)
 
   one_shown : (x : Name) (xs : List Name) → AllShown (x ∷ xs) → constant_of outer x ≡ None
   one_shown x xs h = h x (ap (λ b. b || is_among x xs) ((bytes_eq-Decides x x).1 refl))

@@ -1,5 +1,5 @@
 -- Calls and clauses that are right are right without constants, where their arrays and functions are known.
-use Rattle.std.proofs.Common.{◌≡◌, ℕ, Bool, true, false, ◌&&◌, if◌then◌else◌, IsTrue, Option, Some, None, List, [], ◌∷◌, ◌++◌, map, option_map, option_and_then, ℤ, pos, refl, sym, ap, ◌∙◌, subst}
+use Rattle.std.proofs.Common.{◌≡◌, Bool, true, ◌&&◌, Option, Some, None, List, [], ◌∷◌, ◌++◌, map, option_map, option_and_then, ℤ, refl, sym, ap, ◌∙◌}
 use Rattle.std.specs.Prelude.{is_some}
 use Rattle.std.specs.List.{list_all}
 use Rattle.std.proofs.lemmas.Bool.{and_parts, false≢true}
@@ -7,8 +7,6 @@ use Rattle.std.proofs.lemmas.Option.{none-some}
 use Rattle.pts_types.specs.declared.value.Kind.{Kind}
 use Rattle.pts_types.specs.declared.value.Kind.TheVariants as kinds
 use Rattle.pts_tree.specs.Spelling.{if_there}
-use Rattle.pts_tree.specs.declared.sum.Sum.{Sum}
-use Rattle.pts_tree.specs.declared.sum.Val.{Val}
 use Rattle.pts_tree.specs.declared.sum.Range.{Range}
 use Rattle.pts_tree.specs.declared.sum.Cell.{Cell}
 use Rattle.pts_tree.specs.declared.call.Op.{Op}
@@ -26,19 +24,17 @@ use Rattle.pts_rules.specs.declared.meaning.Meaning.{Meaning}
 use Rattle.pts_rules.specs.declared.meaning.Meaning.TheVariants.{Constant, Array, Function, Value, View}
 use Rattle.pts_rules.specs.declared.meaning.Signature.{Signature}
 use Rattle.pts_rules.specs.Known.{Scope, meaning_of, as_array, as_function, array_of, function_of, kind_of_array, has, holds, is_number, is_place, same_kind, sum_is, val_fits}
-use Rattle.pts_rules.specs.Mistyped.{applies_to, call_right, cell_right, clause_right, clause_entries, form_right, function_right, induct_right, initial_right, op_right, range_kinds, range_right, reduce_right, search_right, source_kinds, sum_kind, sum_right, target_right}
+use Rattle.pts_rules.specs.Mistyped.{applies_to, call_right, cell_right, clause_right, clause_entries, form_right, function_right, induct_right, initial_right, op_right, range_kinds, range_right, search_right, source_kinds, sum_right, target_right}
 use Rattle.pts_rules.specs.Parts.{Name}
 use Rattle.pts_constants.specs.Resolved.{resolved_call, resolved_cell, resolved_clause, resolved_induct, resolved_initial, resolved_range, resolved_reduce, resolved_sum, resolved_val}
 use Rattle.pts_program.proofs.ExactSums.{still_fits, still_holds, still_place}
 use Rattle.pts_program.proofs.KeptKinds.{plain}
+use Rattle.pts_program.proofs.Truths.{both}
 
 -- each name of an array or a function of a scope stands for it among these names too
 pub record Agrees (scope names : Scope) : Type 0 where
   pub arrays : (name : Name) (kind : Kind) (size : ℤ) → meaning_of scope name ≡ Some (Array kind size) → meaning_of names name ≡ Some (Array kind size)
   pub functions : (name : Name) (f : Signature) → meaning_of scope name ≡ Some (Function f) → meaning_of names name ≡ Some (Function (plain f))
-
-both : (a b : Bool) → a ≡ true → b ≡ true → (a && b) ≡ true
-both a b h k = ap (λ x. x && b) h ∙ k
 
 -- what holds of a part where it is there
 there : {A : Type 0} (f : A → A) (p q : A → Bool) → ((x : A) → p x ≡ true → q (f x) ≡ true) → (o : Option A) → if_there p o ≡ true → if_there q (option_map f o) ≡ true
@@ -129,7 +125,7 @@ module _ (scope names : Scope) (agrees : Agrees scope names) where
       let sides = and_parts (is_some (kind_of_array scope x.array) && sum_is scope is_place x.low) (sum_is scope is_place x.high) h in
       kind_same x.array (and_parts (is_some (kind_of_array scope x.array)) (sum_is scope is_place x.low) sides.0).0
 
-  cell_still : (kind : Kind) (x : Cell) → cell_right scope kind x ≡ true → cell_right names kind (resolved_cell scope x) ≡ true
+  pub cell_still : (kind : Kind) (x : Cell) → cell_right scope kind x ≡ true → cell_right names kind (resolved_cell scope x) ≡ true
   cell_still kind x h =
       let parts = and_parts (has (same_kind kind) (kind_of_array scope x.array)) (sum_is scope is_place x.index) h in
       both _ _ (ap (has (same_kind kind)) (kind_tested x.array (same_kind kind) parts.0) ∙ parts.0) (still_place scope names x.index parts.1)

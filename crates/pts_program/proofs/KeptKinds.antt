@@ -26,6 +26,7 @@ use Rattle.pts_rules.proofs.Typings.{typing-Number, typing-True, typing-False, t
 use Rattle.pts_constants.specs.Resolved.{resolved_expr, resolved_part, constant_expr, number_expr, minus_expr, named}
 use Rattle.pts_constants.proofs.Resolutions.{resolved-Number, resolved-True, resolved-False, resolved-Name, resolved-Call, resolved-Element, resolved-Convert, resolved-Throw, resolved-Paren, resolved-Minus, resolved-Not, resolved-Chain, resolved-Compare, resolved-All, resolved-Any, resolved-If, constant-Number, constant-True, constant-False, constant-Name, constant-Call, constant-Element, constant-Convert, constant-Throw, constant-Paren, constant-Not, constant-Chain, constant-Compare, constant-All, constant-Any, constant-If}
 use Rattle.pts_code.proofs.Induction.{AllOf, AllParts, Forms, every}
+use Rattle.pts_program.proofs.Truths.{both}
 
 -- a signature by its kinds alone
 abbrev pub plain : Signature → Signature
@@ -39,9 +40,6 @@ pub record Carries (reads : Bool) (scope outer names : Scope) : Type 0 where
   pub values : (name : Name) (kind : Kind) → meaning_of scope name ≡ Some (Value kind) → meaning_of names name ≡ Some (Value kind)
   pub functions : (name : Name) (f : Signature) → meaning_of scope name ≡ Some (Function f) → meaning_of names name ≡ Some (Function (plain f))
   pub arrays : reads ≡ true → (name : Name) (kind : Kind) (length : ℤ) → meaning_of scope name ≡ Some (Array kind length) → kind_of_array names name ≡ Some kind
-
-both : (a b : Bool) → a ≡ true → b ≡ true → (a && b) ≡ true
-both a b h k = ap (λ x. x && b) h ∙ k
 
 -- ---- numbers
 

@@ -13,9 +13,7 @@ use Rattle.pts_constants.proofs.Resolutions.{resolved-Number, resolved-True, res
 use Rattle.pts_code.specs.Soundness.{is_comparison, operators_right}
 use Rattle.pts_code.proofs.Induction.{AllOf, AllParts, Forms, every}
 use Rattle.pts_code.proofs.Operators.{part_right, right-Number, right-True, right-False, right-Name, right-Throw, right-Call, right-Element, right-Convert, right-Paren, right-Minus, right-Not, right-Chain, right-Compare, right-All, right-Any, right-If}
-
-both : (a b : Bool) → a ≡ true → b ≡ true → (a && b) ≡ true
-both a b h k = ap (λ x. x && b) h ∙ k
+use Rattle.pts_program.proofs.Truths.{both}
 
 -- a number has none
 number_right : (z : ℤ) → operators_right (number_expr z) ≡ true

@@ -1,6 +1,6 @@
 -- Each call has its text at its number, with its policy and its positions.
-use Rattle.std.proofs.Common.{◌≡◌, ℕ, zero, suc, ◌+◌, ◌&&◌, Bool, true, false, IsTrue, Option, Some, None, option_map, List, [], ◌∷◌, ◌++◌, length, slice_get, ℤ, refl, sym, ap, ◌∙◌, subst, arith}
-use Rattle.std.specs.Prelude.{flat_map, ◌-ℤ◌, is_some}
+use Rattle.std.proofs.Common.{◌≡◌, ℕ, zero, suc, ◌+◌, ◌&&◌, true, Option, Some, None, option_map, List, [], ◌∷◌, ◌++◌, length, slice_get, refl, sym, ap, subst, arith}
+use Rattle.std.specs.Prelude.{⊤, flat_map, ◌-ℤ◌, is_some}
 use Rattle.std.proofs.lemmas.Bool.{and_parts}
 use Rattle.std.proofs.lemmas.List.{length-append}
 use Rattle.std.proofs.lemmas.Option.{none-some}
@@ -15,20 +15,25 @@ use Rattle.pts_rules.specs.Known.{Scope, holds, is_place, kind_of_array, natural
 use Rattle.pts_rules.specs.Mistyped.{call_right, loop_right, range_right}
 use Rattle.pts_rules.specs.Parts.{Simple, Throw, Assign, Call, Loop, statements}
 use Rattle.pts_rules.specs.Scopes.{known}
-use Rattle.pts_constants.specs.Resolved.{resolved_call, resolved_loop, resolved_sum}
+use Rattle.pts_constants.specs.Resolved.{resolved_sum}
 use Rattle.pts_constants.specs.Texts.{text_of, texts_of}
 use Rattle.pts_constants.specs.declared.texts.CallText.{CallText}
-use Rattle.pts_constants.specs.declared.texts.CallText.TheVariants as texts
 use Rattle.pts_points.specs.declared.point.CallInfo.{CallInfo}
 use Rattle.pts_points.specs.Points.{call_at, calls_from, calls_of, statement_piece}
 use Rattle.pts_program.specs.declared.lists.Lists.{Lists}
 use Rattle.pts_lowering.specs.Forms.{lowered_calls, lowered_of}
 use Rattle.pts_program.specs.Lists.{no_lists, IsProgram}
-use Rattle.pts_program.specs.Matching.{AreCallsOf, IsCallOf}
+use Rattle.pts_program.specs.Matching.{IsCallOf}
 use Rattle.pts_program.proofs.ExactSums.{exact_held, exact_place}
 use Rattle.pts_program.proofs.ItemTurns.{IsTurn, by_items}
 use Rattle.pts_program.proofs.RightTexts.{IsReady, item_ready}
 use Rattle.pts_points.proofs.Each.{Each}
+
+-- as many of the one as of the other, in one order
+abbrev AreCallsOf : List CallText → List CallInfo → Type 0
+AreCallsOf [] [] = ⊤
+AreCallsOf (t ∷ ts) (c ∷ cs) = IsCallOf t c × AreCallsOf ts cs
+AreCallsOf _ _ = ⊥
 
 -- ---- one statement
 

@@ -7,13 +7,7 @@ use Rattle.std.proofs.lemmas.Slice.Eq.{bytes_eq-Decides}
 use Rattle.pts_rules.specs.Known.{Scope, meaning_of}
 use Rattle.pts_rules.specs.Names.{has_repeat, meet, names_in}
 use Rattle.pts_rules.specs.Parts.{Name, is_among}
-
-pub not_true : (b : Bool) → (b ≡ true → ⊥) → b ≡ false
-not_true true h = absurd (h refl)
-not_true false h = refl
-
-pub either : (a b : Bool) → a ≡ false → b ≡ false → (a || b) ≡ false
-either a b h k = ap (λ c. c || b) h ∙ k
+use Rattle.pts_program.proofs.Truths.{either, or_true}
 
 -- a name among some that meet no others is not among the others
 pub apart_from : (xs ys : List Name) (name : Name) → meet xs ys ≡ false → is_among name xs ≡ true → is_among name ys ≡ false
@@ -73,8 +67,12 @@ meets_not (x ∷ xs) ys h =
     let self : bytes_eq x x ≡ true = (bytes_eq-Decides x x).1 refl in
     either (is_among x ys) (meet xs ys)
     (h x (ap (λ b. b || is_among x xs) self))
-    (meets_not xs ys (λ name among. h name (later (bytes_eq name x) (is_among name xs) among)))
-  where
-    later : (a b : Bool) → b ≡ true → (a || b) ≡ true
-    later true b h = refl
-    later false b h = h
+    (meets_not xs ys (λ name among. h name (or_true (bytes_eq name x) (is_among name xs) among)))
+
+-- ---- names in longer lists
+
+pub in_front : (xs ys : List Name) (name : Name) → is_among name xs ≡ true → is_among name (xs ++ ys) ≡ true
+in_front xs ys name among = list_any-append (bytes_eq name) xs ys ∙ ap (λ b. b || is_among name ys) among
+
+pub in_back : (xs ys : List Name) (name : Name) → is_among name ys ≡ true → is_among name (xs ++ ys) ≡ true
+in_back xs ys name among = list_any-append (bytes_eq name) xs ys ∙ or_true (is_among name xs) (is_among name ys) among

@@ -1,35 +1,31 @@
 -- In what is left of a statement without constants every sum is one number.
-use Rattle.std.proofs.Common.{◌≡◌, ℕ, ◌+◌, Bool, true, false, ◌&&◌, IsTrue, Option, Some, None, option_map, List, [], ◌∷◌, ◌++◌, length, map, refl, sym, ap, ◌∙◌, subst}
-use Rattle.std.specs.Prelude.{All, flat_map}
+use Rattle.std.proofs.Common.{◌≡◌, ◌+◌, Bool, true, Option, Some, None, option_map, List, [], ◌∷◌, length, map, refl}
+use Rattle.std.specs.Prelude.{All}
 use Rattle.std.specs.List.{list_all}
 use Rattle.pts_tree.specs.Spelling.{if_there}
 use Rattle.pts_tree.specs.declared.sum.Val.{Val}
 use Rattle.pts_tree.specs.declared.sum.Val.TheVariants as vals
-use Rattle.pts_tree.specs.declared.block.Block.{Block}
 use Rattle.pts_tree.specs.declared.loops.Clause.{Clause}
 use Rattle.pts_tree.specs.declared.loops.Clause.TheVariants as clauses
 use Rattle.pts_tree.specs.declared.loops.Initial.{Initial}
 use Rattle.pts_tree.specs.declared.loops.Initial.TheVariants as initials
 use Rattle.pts_tree.specs.declared.script.Item.{Item}
 use Rattle.pts_rules.specs.Known.{Scope}
-use Rattle.pts_rules.specs.Parts.{Simple, Throw, Assign, Call, Loop, block_statements, statements}
+use Rattle.pts_rules.specs.Parts.{Simple, Throw, Assign, Call, Loop, statements}
 use Rattle.pts_rules.specs.Scopes.{known}
-use Rattle.pts_constants.specs.Blocks.{info, item_blocks}
-use Rattle.pts_constants.specs.Resolved.{resolved_block, resolved_cell, resolved_clause, resolved_initial, resolved_range, resolved_sum, resolved_val}
-use Rattle.pts_constants.specs.Texts.{text_of, texts_of}
-use Rattle.pts_constants.specs.declared.infos.BlockInfo.{BlockInfo}
-use Rattle.pts_constants.specs.declared.texts.CallText.{CallText}
+use Rattle.pts_constants.specs.Blocks.{blocks_of}
+use Rattle.pts_constants.specs.Resolved.{resolved_cell, resolved_clause, resolved_initial, resolved_range, resolved_sum, resolved_val}
+use Rattle.pts_constants.specs.Texts.{texts_of}
 use Rattle.pts_points.proofs.Each.{Each}
 use Rattle.pts_points.proofs.Each as each
 use Rattle.pts_program.specs.declared.lists.Lists.{Lists}
 use Rattle.pts_program.specs.Lists.{no_lists, IsProgram}
-use Rattle.pts_program.specs.Namings.{as_statement}
-use Rattle.pts_program.specs.Plain.{IsPlainBlock, IsPlainText, is_plain, plain_block, plain_cell, plain_clause, plain_initial, plain_range, plain_sum, plain_val}
+use Rattle.pts_program.specs.Namings.{HoldsIn, HoldsOf}
+use Rattle.pts_program.specs.Plain.{IsPlain, is_plain, plain_cell, plain_clause, plain_initial, plain_range, plain_sum, plain_val}
 use Rattle.pts_program.proofs.ItemTurns.{IsTurn, by_items}
-use Rattle.pts_program.proofs.Replaced.{block_replaced, resolved_simple}
-
-both : (a b : Bool) → a ≡ true → b ≡ true → (a && b) ≡ true
-both a b h k = ap (λ x. x && b) h ∙ k
+use Rattle.pts_program.proofs.InnerStatements.{Without, blocks_hold, texts_hold}
+use Rattle.pts_program.proofs.Replaced.{resolved_simple}
+use Rattle.pts_program.proofs.Truths.{both}
 
 -- what holds of each part that is made holds where there is one
 made : {A : Type 0} (f : A → A) (p : A → Bool) → ((x : A) → p (f x) ≡ true) → (o : Option A) → if_there p (option_map f o) ≡ true
@@ -62,41 +58,29 @@ module _ (scope : Scope) where
       (made (resolved_cell scope) plain_cell (λ y. refl) x.store)
   plain_without (Loop x) = both _ _ (made (resolved_sum scope) plain_sum (λ y. refl) x.step) (clauses_plain x.clauses)
 
-  texts_plain : (ss : List Simple) → Each IsPlainText (flat_map (text_of scope) ss)
-  texts_plain [] = tt
-  texts_plain (Throw n ∷ ss) = texts_plain ss
-  texts_plain (Assign at x ∷ ss) = texts_plain ss
-  texts_plain (Call x ∷ ss) = (plain_without (Call x), texts_plain ss)
-  texts_plain (Loop x ∷ ss) = (plain_without (Loop x), texts_plain ss)
-
-  all_plain : (ss : List Simple) → list_all is_plain (map (resolved_simple scope) ss) ≡ true
-  all_plain [] = refl
-  all_plain (s ∷ ss) = both (is_plain (resolved_simple scope s)) (list_all is_plain (map (resolved_simple scope) ss)) (plain_without s) (all_plain ss)
-
-  block_plain : (x : Block) → plain_block (resolved_block scope x) ≡ true
-  block_plain x = ap (list_all is_plain) (block_replaced scope x) ∙ all_plain (block_statements x)
-
-  blocks_plain : (number : ℕ) (xs : List Block) → Each IsPlainBlock (map (info scope number) xs)
-  blocks_plain number [] = tt
-  blocks_plain number (x ∷ xs) = (block_plain x, blocks_plain number xs)
+  all_plain : (ss : List Simple) → Each (Without IsPlain scope) ss
+  all_plain [] = tt
+  all_plain (s ∷ ss) = (plain_without s, all_plain ss)
 
 -- ---- all items
 
 record ArePlain (before : List Item) (lists : Lists) : Type 0 where
-  pub texts : Each IsPlainText lists.texts
-  pub blocks : Each IsPlainBlock lists.blocks
+  pub texts : Each (HoldsOf IsPlain) lists.texts
+  pub blocks : Each (HoldsIn IsPlain) lists.blocks
 
 plain_turn : IsTurn ArePlain
-plain_turn before x lists keeps written h = record {
-  texts = each.both IsPlainText lists.texts (texts_of (known before) x) h.texts (texts_plain (known before) (statements x));
-  blocks = each.both IsPlainBlock lists.blocks (map (info (known before) (length before + 1)) (item_blocks x)) h.blocks (blocks_plain (known before) (length before + 1) (item_blocks x));
-}
+plain_turn before x lists keeps written h =
+    let scope = known before in
+    record {
+      texts = each.both (HoldsOf IsPlain) lists.texts (texts_of scope x) h.texts (texts_hold IsPlain scope (statements x) (all_plain scope (statements x)));
+      blocks = each.both (HoldsIn IsPlain) lists.blocks (blocks_of scope (length before + 1) x) h.blocks (blocks_hold IsPlain scope (length before + 1) x (all_plain scope (statements x)));
+    }
 
 nothing_plain : ArePlain [] no_lists
 nothing_plain = record { texts = tt; blocks = tt }
 
-pub texts_are_plain : (lists : Lists) → IsProgram lists → All IsPlainText lists.texts
-texts_are_plain lists h = each.all_of IsPlainText lists.texts (by_items ArePlain plain_turn nothing_plain lists h).texts
+pub texts_are_plain : (lists : Lists) → IsProgram lists → All (HoldsOf IsPlain) lists.texts
+texts_are_plain lists h = each.all_of (HoldsOf IsPlain) lists.texts (by_items ArePlain plain_turn nothing_plain lists h).texts
 
-pub blocks_are_plain : (lists : Lists) → IsProgram lists → All IsPlainBlock lists.blocks
-blocks_are_plain lists h = each.all_of IsPlainBlock lists.blocks (by_items ArePlain plain_turn nothing_plain lists h).blocks
+pub blocks_are_plain : (lists : Lists) → IsProgram lists → All (HoldsIn IsPlain) lists.blocks
+blocks_are_plain lists h = each.all_of (HoldsIn IsPlain) lists.blocks (by_items ArePlain plain_turn nothing_plain lists h).blocks

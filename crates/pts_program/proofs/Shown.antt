@@ -1,8 +1,7 @@
 -- What the names of a scope stand for among the arrays and functions of the lists.
-use Rattle.std.proofs.Common.{◌≡◌, ℕ, ◌+◌, Bool, true, false, IsTrue, if◌then◌else◌, Option, Some, None, List, [], ◌∷◌, ◌++◌, fold, map, length, option_map, option_and_then, bytes_eq, ℤ, pos, refl, sym, ap, ◌∙◌, subst, append-nil}
+use Rattle.std.proofs.Common.{◌≡◌, Bool, true, false, if◌then◌else◌, Some, None, List, [], ◌∷◌, ◌++◌, map, length, option_map, option_and_then, bytes_eq, ℤ, pos, refl, sym, ap, ◌∙◌, subst, append-nil}
 use Rattle.std.specs.Prelude.{◌||◌, unwrap_or}
 use Rattle.std.specs.Option.{option_or}
-use Rattle.std.specs.List.{list_any}
 use Rattle.std.proofs.lemmas.Bool.{and_parts, or_parts, false≢true}
 use Rattle.std.proofs.lemmas.Option.{none-some}
 use Rattle.std.proofs.lemmas.List.{map-append}
@@ -10,9 +9,6 @@ use Rattle.std.proofs.lemmas.List.Folds.{list_any-append}
 use Rattle.std.proofs.lemmas.List.Sums.{fold_push}
 use Rattle.std.proofs.lemmas.Slice.Eq.{bytes_eq-Decides}
 use Rattle.pts_types.specs.declared.value.Kind.{Kind}
-use Rattle.pts_tree.specs.Scripts.{item_allowed}
-use Rattle.pts_tree.specs.declared.script.ArrayDecl.{ArrayDecl}
-use Rattle.pts_tree.specs.declared.script.FunctionDecl.{FunctionDecl}
 use Rattle.pts_tree.specs.declared.script.Item.{Item}
 use Rattle.pts_tree.specs.declared.script.Item.TheVariants as items
 use Rattle.pts_rules.specs.declared.meaning.Meaning.{Meaning}
@@ -35,7 +31,8 @@ use Rattle.pts_program.proofs.Insides.{start_length}
 use Rattle.pts_program.proofs.ItemTurns.{IsTurn, by_items}
 use Rattle.pts_program.proofs.Keeping.{Keeps}
 use Rattle.pts_program.proofs.KeptKinds.{plain}
-use Rattle.pts_program.proofs.NamesApart.{apart_from, both_once, meets_not, none_twice, not_true, unnamed}
+use Rattle.pts_program.proofs.NamesApart.{both_once, in_front, meets_not, none_twice, unnamed}
+use Rattle.pts_program.proofs.Truths.{not_true, or_true}
 
 -- ---- arrays by their names
 
@@ -146,9 +143,6 @@ in_one xs ys name P among f g =
       | true ↦ λ here all. f here
       | false ↦ λ here all. g all
     ]) refl (sym (list_any-append (bytes_eq name) xs ys) ∙ among)
-
-in_front : (xs ys : List Name) (name : Name) → is_among name xs ≡ true → is_among name (xs ++ ys) ≡ true
-in_front xs ys name among = list_any-append (bytes_eq name) xs ys ∙ ap (λ b. b || is_among name ys) among
 
 array_still : (scope : Scope) (x name : Name) (new : Meaning) → IsNew scope x → NamesArray scope name → NamesArray ((x, new) ∷ scope) name
 array_still scope x name new fresh h = record { kind = h.kind; size = h.size; means = still_means scope x name new (Array h.kind h.size) fresh h.means }
@@ -270,16 +264,12 @@ function_brings scope arrays functions f s own fresh h =
           ap (is_among name) (map-append (λ (g : FunctionInfo). g.name) functions (f ∷ []))
           ∙ list_any-append (bytes_eq name) (function_names functions) (f.name ∷ [])
           ∙ ap (λ b. is_among name (function_names functions) || (b || false)) same
-          ∙ or_true (is_among name (function_names functions));
+          ∙ or_true (is_among name (function_names functions)) true refl;
       arrays_known = λ name among. absurd (false≢true among);
       functions_known = λ name among. record { signature = s; means = here scope f.name name (Function s) (only f.name name among) };
       arrays_once = ap (λ xs. has_repeat (array_names xs)) (append-nil arrays) ∙ h.arrays_once;
       functions_once = ap has_repeat (map-append (λ (g : FunctionInfo). g.name) functions (f ∷ [])) ∙ none_twice (function_names functions) f.name h.functions_once apart.1;
     }
-  where
-    or_true : (b : Bool) → (b || true) ≡ true
-    or_true true = refl
-    or_true false = refl
 
 -- ---- one item more
 

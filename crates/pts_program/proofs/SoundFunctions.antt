@@ -69,7 +69,7 @@ these ps scope functions h = record {
 
 -- ---- one name more
 
-pub no_values_more : (scope : Scope) (x : Name) (m : Meaning) → as_value m ≡ None → ((name : Name) (kind : Kind) → ¬ (meaning_of scope name ≡ Some (Value kind)))
+no_values_more : (scope : Scope) (x : Name) (m : Meaning) → as_value m ≡ None → ((name : Name) (kind : Kind) → ¬ (meaning_of scope name ≡ Some (Value kind)))
     → (name : Name) (kind : Kind) → ¬ (meaning_of ((x, m) ∷ scope) name ≡ Some (Value kind))
 no_values_more scope x m other none name kind is =
     elim (bytes_eq name x) as (λ b. (if b then Some m else meaning_of scope name) ≡ Some (Value kind) → ⊥) [

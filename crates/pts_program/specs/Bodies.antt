@@ -1,5 +1,5 @@
 -- Bodies of blocks: what stands in a run, and how many runs and waits there are.
-use Rattle.std.specs.Prelude.{◌≡◌, IsTrue, Bool, true, not, ◌&&◌, List, length, filter}
+use Rattle.std.specs.Prelude.{◌≡◌, IsTrue, Bool, true, not, ◌&&◌, length, filter}
 use Rattle.std.specs.List.{list_all}
 use Rattle.pts_tree.specs.declared.block.Block.{Block}
 use Rattle.pts_tree.specs.declared.block.TaskStmt.{TaskStmt}

@@ -1,5 +1,5 @@
 -- Ranges and cells that lie in their arrays.
-use Rattle.std.specs.Prelude.{◌≡◌, Option, Some, IfSome, All, List, length, pos, ◌≤ℤ◌, ◌<ℤ◌, [], ⊤}
+use Rattle.std.specs.Prelude.{◌≡◌, Some, IfSome, All, List, length, pos, ◌≤ℤ◌, ◌<ℤ◌, [], ⊤}
 use Rattle.pts_tree.specs.declared.sum.Range.{Range}
 use Rattle.pts_tree.specs.declared.sum.Cell.{Cell}
 use Rattle.pts_tree.specs.declared.call.Call as call
@@ -8,8 +8,7 @@ use Rattle.pts_tree.specs.declared.loops.Clause.TheVariants as clauses
 use Rattle.pts_tree.specs.declared.loops.Initial.{Initial}
 use Rattle.pts_tree.specs.declared.loops.Initial.TheVariants as initials
 use Rattle.pts_rules.specs.Known.{number}
-use Rattle.pts_constants.specs.declared.texts.CallText.{CallText}
-use Rattle.pts_constants.specs.declared.texts.CallText.TheVariants as texts
+use Rattle.pts_rules.specs.Parts.{Simple, Throw, Assign, Call, Loop}
 use Rattle.pts_program.specs.declared.info.ArrayInfo.{ArrayInfo}
 use Rattle.pts_program.specs.Namings.{array_named}
 
@@ -42,7 +41,9 @@ abbrev pub HoldsClause : List ArrayInfo → Clause → Type 0
 HoldsClause arrays (clauses.Reduce x) = HoldsCell arrays x.cell
 HoldsClause arrays (clauses.Induct x) = HoldsInitial arrays x.initial
 
--- the ranges and the cells of a text, but for those of a loop's body
-abbrev pub HoldsText : List ArrayInfo → CallText → Type 0
-HoldsText arrays (texts.Call x) = HoldsCall arrays x
-HoldsText arrays (texts.Loop x) = All (HoldsClause arrays) x.clauses
+-- the ranges and the cells of a statement, but for those of a loop's body
+abbrev pub HoldsStatement : List ArrayInfo → Simple → Type 0
+HoldsStatement arrays (Throw n) = ⊤
+HoldsStatement arrays (Assign at x) = HoldsCell arrays at
+HoldsStatement arrays (Call x) = HoldsCall arrays x
+HoldsStatement arrays (Loop x) = All (HoldsClause arrays) x.clauses

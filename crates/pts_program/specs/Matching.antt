@@ -1,5 +1,5 @@
 -- Lists of a program that go together by their numbers.
-use Rattle.std.specs.Prelude.{◌≡◌, ⊤, ℕ, ◌<◌, List, [], ◌∷◌, length, ◌-ℤ◌}
+use Rattle.std.specs.Prelude.{◌≡◌, ◌<◌, [], length, ◌-ℤ◌}
 use Rattle.pts_rules.specs.Counts.{loop_positions}
 use Rattle.pts_rules.specs.Known.{natural, number}
 use Rattle.pts_constants.specs.declared.texts.CallText.{CallText}
@@ -13,12 +13,6 @@ use Rattle.pts_program.specs.declared.lists.Lists.{Lists}
 abbrev pub IsCallOf : CallText → CallInfo → Type 0
 IsCallOf (texts.Call x) call = (call.policy ≡ x.policy) × (call.positions ≡ natural (number [] x.first.high -ℤ number [] x.first.low))
 IsCallOf (texts.Loop x) call = (call.policy ≡ x.policy) × (call.positions ≡ loop_positions [] x)
-
--- as many of the one as of the other, in one order
-abbrev pub AreCallsOf : List CallText → List CallInfo → Type 0
-AreCallsOf [] [] = ⊤
-AreCallsOf (text ∷ texts) (call ∷ calls) = IsCallOf text call × AreCallsOf texts calls
-AreCallsOf _ _ = ⊥
 
 -- the call, the block or the array of a statement is in its list
 abbrev pub IsNumbered : Lists → StatementInfo → Type 0

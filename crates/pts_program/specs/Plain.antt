@@ -1,5 +1,5 @@
--- Texts whose sums are numbers.
-use Rattle.std.specs.Prelude.{IsTrue, ℕ, Bool, true, false, ◌&&◌, List, [], ◌∷◌}
+-- Statements whose sums are numbers.
+use Rattle.std.specs.Prelude.{IsTrue, Bool, true, false, ◌&&◌, List, [], ◌∷◌}
 use Rattle.std.specs.List.{list_all}
 use Rattle.pts_tree.specs.Spelling.{if_there}
 use Rattle.pts_tree.specs.declared.sum.Atom.{Atom}
@@ -15,11 +15,7 @@ use Rattle.pts_tree.specs.declared.loops.Clause.{Clause}
 use Rattle.pts_tree.specs.declared.loops.Clause.TheVariants as clauses
 use Rattle.pts_tree.specs.declared.loops.Initial.{Initial}
 use Rattle.pts_tree.specs.declared.loops.Initial.TheVariants as initials
-use Rattle.pts_tree.specs.declared.block.Block.{Block}
-use Rattle.pts_rules.specs.Parts.{Simple, Throw, Assign, Call, Loop, block_statements}
-use Rattle.pts_constants.specs.declared.infos.BlockInfo.{BlockInfo}
-use Rattle.pts_constants.specs.declared.texts.CallText.{CallText}
-use Rattle.pts_program.specs.Namings.{as_statement}
+use Rattle.pts_rules.specs.Parts.{Simple, Throw, Assign, Call, Loop}
 
 -- ---- sums
 
@@ -70,12 +66,5 @@ is_plain (Assign at x) = plain_cell at
 is_plain (Call x) = plain_call x
 is_plain (Loop x) = plain_loop x
 
--- a block with such statements alone, at any depth
-abbrev pub plain_block : Block → Bool
-plain_block x = list_all is_plain (block_statements x)
-
-abbrev pub IsPlainText : CallText → Type 0
-IsPlainText text = IsTrue (is_plain (as_statement text))
-
-abbrev pub IsPlainBlock : BlockInfo → Type 0
-IsPlainBlock block = IsTrue (plain_block block.body)
+abbrev pub IsPlain : Simple → Type 0
+IsPlain x = IsTrue (is_plain x)

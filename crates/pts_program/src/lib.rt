@@ -23,9 +23,10 @@ pub use laws::{
 };
 pub use program::Program;
 pub use promises::{
-    each_call_has_its_text, every_range_lies_in_its_array, every_run_stands_in_its_block,
-    every_sum_is_one_number, every_sum_keeps_its_value, every_text_keeps_the_rules_of_kinds,
-    names_of_arrays_and_functions_differ, statements_have_their_numbers,
+    each_call_has_its_text, every_name_is_known, every_range_lies_in_its_array,
+    every_run_stands_in_its_block, every_statement_keeps_the_rules_of_kinds,
+    every_sum_is_one_number, every_sum_keeps_its_value, names_of_arrays_and_functions_differ,
+    statements_have_their_numbers,
 };
 pub use pts_code::FunctionInfo;
 pub use pts_constants::{BlockInfo, CallText};

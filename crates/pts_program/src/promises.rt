@@ -12,11 +12,11 @@ ghost use Rattle.pts_program.specs.declared.lists.Lists.{Lists};
 ghost use Rattle.pts_program.specs.Bodies.{IsBlockBody};
 ghost use Rattle.pts_program.specs.Exactness.{IsExact, sums_of};
 ghost use Rattle.pts_program.specs.Faults.{IsSound, item_at, items_before};
-ghost use Rattle.pts_program.specs.Holdings.{HoldsText};
+ghost use Rattle.pts_program.specs.Holdings.{HoldsStatement};
 ghost use Rattle.pts_program.specs.Lists.{IsProgram};
 ghost use Rattle.pts_program.specs.Matching.{IsCallOf, IsNumbered};
-ghost use Rattle.pts_program.specs.Namings.{IsRightText, global_names};
-ghost use Rattle.pts_program.specs.Plain.{IsPlainBlock, IsPlainText};
+ghost use Rattle.pts_program.specs.Namings.{HoldsIn, HoldsOf, IsNamed, IsRight, global_names};
+ghost use Rattle.pts_program.specs.Plain.{IsPlain};
 
 /// There are as many texts as calls, and as many forms in which they run; the text of a call has its policy and its positions.
 pub fn each_call_has_its_text()
@@ -32,8 +32,8 @@ pub fn statements_have_their_numbers()
 
 /// In texts and blocks each sum is one number.
 pub fn every_sum_is_one_number()
-    ensures texts { (lists : Lists) → IsProgram lists → All IsPlainText lists.texts }
-    ensures blocks { (lists : Lists) → IsProgram lists → All IsPlainBlock lists.blocks }
+    ensures texts { (lists : Lists) → IsProgram lists → All (HoldsOf IsPlain) lists.texts }
+    ensures blocks { (lists : Lists) → IsProgram lists → All (HoldsIn IsPlain) lists.blocks }
 {}
 
 /// No two arrays or functions have one name.
@@ -41,15 +41,24 @@ pub fn names_of_arrays_and_functions_differ()
     ensures { (lists : Lists) → IsProgram lists → has_repeat (global_names lists) ≡ false }
 {}
 
-/// Texts keep the rules of kinds where the arrays and functions of the program are known, and no constants: what they name is
-/// of the sort that its place asks, initial values, identities and steps lie in their kinds, and expressions have theirs.
-pub fn every_text_keeps_the_rules_of_kinds()
-    ensures { (lists : Lists) → IsProgram lists → All (IsRightText lists) lists.texts }
+/// Each name in texts and blocks is a local one or that of an array or a function before the item, and so none of a constant;
+/// the local names of a loop differ from each other and from those.
+pub fn every_name_is_known()
+    ensures texts { (lists : Lists) → IsProgram lists → All (HoldsOf (IsNamed lists)) lists.texts }
+    ensures blocks { (lists : Lists) → IsProgram lists → All (HoldsIn (IsNamed lists)) lists.blocks }
 {}
 
-/// The ranges of calls, and the cells of calls and clauses, lie in their arrays, and no range ends before its start.
+/// Texts and blocks keep the rules of kinds where the arrays and functions of the program are known, and no constants: what they
+/// name is of the sort that its place asks, initial values, identities and steps lie in their kinds, and expressions have theirs.
+pub fn every_statement_keeps_the_rules_of_kinds()
+    ensures texts { (lists : Lists) → IsProgram lists → All (HoldsOf (IsRight lists)) lists.texts }
+    ensures blocks { (lists : Lists) → IsProgram lists → All (HoldsIn (IsRight lists)) lists.blocks }
+{}
+
+/// Ranges, and the cells that no loop index moves, lie in their arrays, and no range ends before its start.
 pub fn every_range_lies_in_its_array()
-    ensures { (lists : Lists) → IsProgram lists → All (HoldsText lists.arrays) lists.texts }
+    ensures texts { (lists : Lists) → IsProgram lists → All (HoldsOf (HoldsStatement lists.arrays)) lists.texts }
+    ensures blocks { (lists : Lists) → IsProgram lists → All (HoldsIn (HoldsStatement lists.arrays)) lists.blocks }
 {}
 
 /// Of no sum in a statement of a script that breaks no rule is anything cut: the number that is left of it is its value.
