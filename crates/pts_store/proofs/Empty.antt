@@ -1,7 +1,8 @@
 -- Nothing is written in what is empty, nor past an end.
 use Rattle.std.proofs.Common.{◌≡◌, ◌≤◌, ℕ, ◌/◌, ◌%◌, None, [], length, refl, ap, ◌∙◌}
 use Rattle.std.proofs.Math.ListN.{get_or-eq_default}
-use Rattle.pts_store.specs.Writes.{Block, Row, Band, Writes, in_page, in_block, in_row, in_band, written}
+use Rattle.pts_store.specs.declared.slot.Slot.TheVariants.{Nothing}
+use Rattle.pts_store.specs.Writes.{Page, Block, Row, Band, Writes, held, in_page, in_block, in_row, in_band, written}
 
 pub in_page-empty : (k : ℕ) → in_page [] k ≡ None
 unfolding in_page
@@ -18,6 +19,10 @@ in_row-empty index = in_block-empty (index % 8192)
 pub in_band-empty : (k index : ℕ) → in_band [] k index ≡ None
 unfolding in_band
 in_band-empty k index = in_row-empty index
+
+pub in_page-past : (page : Page) (k : ℕ) → length page ≤ k → in_page page k ≡ None
+unfolding in_page
+in_page-past page k past = ap held (get_or-eq_default page Nothing past)
 
 pub in_block-past : (block : Block) (k : ℕ) → length block ≤ k / 64 → in_block block k ≡ None
 unfolding in_block

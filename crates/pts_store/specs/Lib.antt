@@ -1,2 +1,4 @@
 pub mod Levels
+pub mod Stores
+pub mod Stretches
 pub mod Writes

@@ -1,10 +1,13 @@
 //! The writes to 64 arrays that follow one another.
 
-ghost use Rattle.std.specs.Prelude.{◌≡◌, [], OnOk, OnErr};
+ghost use Rattle.std.specs.Prelude.{◌≡◌, ◌≤◌, [], OnOk, OnErr, length};
 ghost use Rattle.pts_store.specs.Levels.{SameBand, PutsInBand, CoversBand, FitsBand};
+ghost use Rattle.pts_store.specs.Stores.{cells_with};
+ghost use Rattle.pts_store.specs.Stretches.{Shows};
 ghost use Rattle.pts_store.specs.Writes.{in_band};
 
-use crate::padding::{Part, pad};
+use crate::cells::Cells;
+use crate::padding::{Part, least, pad};
 use crate::row::Row;
 use pts_types::Value;
 use std::alloc::{AllocError, Global};
@@ -90,6 +93,21 @@ impl Band {
         let rows = later.rows.as_slice();
         for at in 0..rows.len() {
             self.rows[at].cover(&rows[at]);
+        }
+    }
+}
+
+impl Band {
+    /// Writes the values into the arrays from `base` on. What lies past the arrays or their cells is passed over.
+    #[tactic(auto, unfolding(crate::specs::Writes::in_band))]
+    pub fn write_into(&self, arrays: &mut [Cells], base: usize)
+        requires { base ≤ length arrays.old }
+        ensures { Shows cells_with (in_band self.now) base 64 arrays.old arrays.new }
+    {
+        let rows = self.rows.as_slice();
+        let count = least(least(rows.len(), BAND as usize), arrays.len() - base);
+        for at in 0..count {
+            arrays[base + at].accept(&rows[at]);
         }
     }
 }

@@ -1,10 +1,12 @@
 //! The writes to 8,192 cells that follow one another.
 
-ghost use Rattle.std.specs.Prelude.{◌≡◌, [], OnOk, OnErr};
+ghost use Rattle.std.specs.Prelude.{◌≡◌, ◌≤◌, [], OnOk, OnErr, length};
 ghost use Rattle.pts_store.specs.Levels.{Puts, Same, Covers, FitsBlock};
+ghost use Rattle.pts_store.specs.Stores.{shown};
+ghost use Rattle.pts_store.specs.Stretches.{Shows};
 ghost use Rattle.pts_store.specs.Writes.{in_block};
 
-use crate::padding::{Part, pad};
+use crate::padding::{Part, least, pad};
 use crate::page::{PAGE, Page};
 use pts_types::Value;
 use std::alloc::{AllocError, Global};
@@ -84,6 +86,22 @@ impl Block {
         let pages = later.pages.as_slice();
         for at in 0..pages.len() {
             self.pages[at].cover(&pages[at]);
+        }
+    }
+}
+
+impl Block {
+    /// Writes the values into the cells from `base` on. What lies past the cells is passed over.
+    #[tactic(auto, unfolding(crate::specs::Writes::in_block))]
+    pub fn write_into(&self, cells: &mut [Value], base: usize)
+        requires { base ≤ length cells.old }
+        ensures { Shows shown (in_block self.now) base 8192 cells.old cells.new }
+    {
+        let size = PAGE as usize;
+        let pages = self.pages.as_slice();
+        let count = least(least(pages.len(), 128), (cells.len() - base) / size + 1);
+        for at in 0..count {
+            pages[at].write_into(cells, base + at * size);
         }
     }
 }

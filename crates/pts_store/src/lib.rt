@@ -3,10 +3,13 @@
 
 mod band;
 mod block;
+mod cells;
 mod padding;
 mod page;
 mod row;
 mod slot;
+mod store;
 mod writes;
 
+pub use store::Store;
 pub use writes::{Writes, merge};

@@ -1,6 +1,6 @@
 //! Lists that grow up to a place by empty parts.
 
-ghost use Rattle.std.specs.Prelude.{◌≡◌, ◌≤◌, ℕ, OnOk, get_or, length, vec_len};
+ghost use Rattle.std.specs.Prelude.{◌≡◌, ◌≤◌, ℕ, min, OnOk, get_or, length, vec_len};
 
 use std::alloc::{AllocError, Global};
 
@@ -27,4 +27,11 @@ pub fn pad<T: Part>(alloc: Global, parts: &mut Vec<T>, count: usize) -> Result<(
         }
     }
     Ok(())
+}
+
+/// The smaller of two numbers.
+pub fn least(x: usize, y: usize) -> usize
+    ensures { result ≡ min x y }
+{
+    if x < y { x } else { y }
 }

@@ -1,11 +1,13 @@
 //! The writes to 64 cells that follow one another.
 
-ghost use Rattle.std.specs.Prelude.{◌≡◌, ◌≤◌, ℕ, [], OnOk, OnErr, get_or, vec_len};
+ghost use Rattle.std.specs.Prelude.{◌≡◌, ◌≤◌, ℕ, [], OnOk, OnErr, get_or, length, vec_len};
 ghost use Rattle.pts_store.specs.declared.slot.Slot.TheVariants.{Nothing};
 ghost use Rattle.pts_store.specs.Levels.{Puts, Same, Covers, FitsPage};
+ghost use Rattle.pts_store.specs.Stores.{shown};
+ghost use Rattle.pts_store.specs.Stretches.{Shows};
 ghost use Rattle.pts_store.specs.Writes.{in_page};
 
-use crate::padding::Part;
+use crate::padding::{Part, least};
 use crate::slot::Slot;
 use pts_types::Value;
 use std::alloc::{AllocError, Global};
@@ -87,6 +89,21 @@ impl Page {
                 Slot::Nothing => (),
                 slot => self.slots[at] = slot,
             }
+        }
+    }
+}
+
+impl Page {
+    /// Writes the values into the cells from `base` on. What lies past the cells is passed over.
+    #[tactic(auto, unfolding(crate::specs::Writes::in_page))]
+    pub fn write_into(&self, cells: &mut [Value], base: usize)
+        requires { base ≤ length cells.old }
+        ensures { Shows shown (in_page self.now) base 64 cells.old cells.new }
+    {
+        let slots = self.slots.as_slice();
+        let count = least(least(slots.len(), PAGE as usize), cells.len() - base);
+        for at in 0..count {
+            cells[base + at] = slots[at].over(cells[base + at]);
         }
     }
 }

@@ -2,10 +2,11 @@
 
 ghost use Rattle.std.specs.Prelude.{◌≡◌, [], OnOk, OnErr};
 ghost use Rattle.pts_store.specs.Levels.{Puts, Same, Covers, FitsRow};
+ghost use Rattle.pts_store.specs.Stores.{cells_with};
 ghost use Rattle.pts_store.specs.Writes.{in_row};
 
 use crate::block::{BLOCK, Block};
-use crate::padding::{Part, pad};
+use crate::padding::{Part, least, pad};
 use pts_types::Value;
 use std::alloc::{AllocError, Global};
 use std::marker::Model;
@@ -81,6 +82,21 @@ impl Row {
         let blocks = later.blocks.as_slice();
         for at in 0..blocks.len() {
             self.blocks[at].cover(&blocks[at]);
+        }
+    }
+}
+
+impl Row {
+    /// Writes the values into the cells. What lies past them is passed over.
+    #[tactic(auto, unfolding(crate::specs::Writes::in_row))]
+    pub fn write_into(&self, cells: &mut [Value])
+        ensures { cells.new ≡ cells_with (in_row self.now) cells.old }
+    {
+        let size = BLOCK as usize;
+        let blocks = self.blocks.as_slice();
+        let count = least(blocks.len(), cells.len() / size + 1);
+        for at in 0..count {
+            blocks[at].write_into(cells, at * size);
         }
     }
 }

@@ -1,6 +1,7 @@
 //! A place for a value, which may be empty.
 
 ghost use Rattle.std.specs.Prelude.{◌≡◌, Some};
+ghost use Rattle.pts_store.specs.Stores.{shown};
 ghost use Rattle.pts_store.specs.Writes.{held};
 
 use pts_types::Value;
@@ -35,6 +36,18 @@ impl Slot {
             Slot::U64(n) => Some(Value::U64(n)),
             Slot::Bool(b) => Some(Value::Bool(b)),
             Slot::Nothing => None,
+        }
+    }
+
+    /// The value, or else the one that is given.
+    pub fn over(self, earlier: Value) -> Value
+        ensures { result ≡ shown (held self) earlier }
+    {
+        match self {
+            Slot::I64(z) => Value::I64(z),
+            Slot::U64(n) => Value::U64(n),
+            Slot::Bool(b) => Value::Bool(b),
+            Slot::Nothing => earlier,
         }
     }
 }

@@ -2,10 +2,12 @@
 
 ghost use Rattle.std.specs.Prelude.{◌≡◌, [], OnOk, OnErr};
 ghost use Rattle.pts_store.specs.Levels.{FitsWrites};
+ghost use Rattle.pts_store.specs.Stores.{accepted};
 ghost use Rattle.pts_store.specs.Writes.{written, SameWrites, PutsCell, Merges};
 
 use crate::band::{BAND, Band};
-use crate::padding::pad;
+use crate::cells::Cells;
+use crate::padding::{least, pad};
 use pts_types::{NoMemory, Value};
 use std::alloc::{AllocError, Global};
 use std::marker::Model;
@@ -84,6 +86,21 @@ impl Writes {
         let bands = later.bands.as_slice();
         for at in 0..bands.len() {
             self.bands[at].cover(&bands[at]);
+        }
+    }
+}
+
+impl Writes {
+    /// Writes the values into the arrays. What lies past the arrays or their cells is passed over.
+    #[tactic(auto, unfolding(crate::specs::Writes::written))]
+    pub(crate) fn write_into(&self, arrays: &mut [Cells])
+        ensures { arrays.new ≡ accepted arrays.old self.now }
+    {
+        let size = BAND as usize;
+        let bands = self.bands.as_slice();
+        let count = least(bands.len(), arrays.len() / size + 1);
+        for at in 0..count {
+            bands[at].write_into(arrays, at * size);
         }
     }
 }
