@@ -20,6 +20,10 @@ pub in_band-empty : (k index : ℕ) → in_band [] k index ≡ None
 unfolding in_band
 in_band-empty k index = in_row-empty index
 
+pub written-empty : (array index : ℕ) → written [] array index ≡ None
+unfolding written
+written-empty array index = in_band-empty (array % 64) index
+
 pub in_page-past : (page : Page) (k : ℕ) → length page ≤ k → in_page page k ≡ None
 unfolding in_page
 in_page-past page k past = ap held (get_or-eq_default page Nothing past)

@@ -4,6 +4,7 @@
 mod band;
 mod block;
 mod cells;
+mod overlay;
 mod padding;
 mod page;
 mod row;
@@ -11,5 +12,6 @@ mod slot;
 mod store;
 mod writes;
 
+pub use overlay::Overlay;
 pub use store::Store;
 pub use writes::{Writes, merge};

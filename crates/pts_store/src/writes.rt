@@ -1,6 +1,6 @@
 //! What calls write: at each cell of each array a value, or nothing.
 
-ghost use Rattle.std.specs.Prelude.{◌≡◌, [], OnOk, OnErr};
+ghost use Rattle.std.specs.Prelude.{◌≡◌, ◌↔◌, [], IsTrue, OnOk, OnErr};
 ghost use Rattle.pts_store.specs.Levels.{FitsWrites};
 ghost use Rattle.pts_store.specs.Stores.{accepted};
 ghost use Rattle.pts_store.specs.Writes.{written, SameWrites, PutsCell, Merges};
@@ -38,6 +38,13 @@ impl Writes {
             bands: Vec::new(alloc),
             alloc,
         }
+    }
+
+    /// Whether nothing was ever written.
+    pub fn is_empty(&self) -> bool
+        ensures { IsTrue result ↔ (self.now ≡ []) }
+    {
+        self.bands.is_empty()
     }
 
     /// The value that is written to a cell, if there is one.
