@@ -2,6 +2,8 @@ pub mod Accepting
 pub mod Changes
 pub mod Empty
 pub mod Joining
+pub mod KeptKinds
 pub mod PaddedLists
 pub mod Reading
 pub mod Shown
+pub mod Together

@@ -3,8 +3,9 @@ use Rattle.std.specs.Prelude.{ℕ}
 use Rattle.pts_store.specs.Stores.{Store}
 use Rattle.pts_store.specs.Writes.{Writes}
 
--- the store that an overlay stands for, its own writes, and how many overlays lie below it
+-- the store that an overlay stands for, which is the one below it with its own writes, and how many overlays lie below it
 pub record Layer : Type 0 where
   pub stands : Store
+  pub below : Store
   pub writes : Writes
   pub depth : ℕ

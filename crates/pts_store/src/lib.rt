@@ -4,14 +4,24 @@
 mod band;
 mod block;
 mod cells;
+mod laws;
 mod overlay;
 mod padding;
 mod page;
 mod row;
+mod shared;
 mod slot;
 mod store;
+mod view;
 mod writes;
 
+pub use laws::{
+    merging_is_associative, writes_apart_are_accepted_in_any_order,
+    writes_apart_merge_in_any_order, writes_are_those_of_their_steps,
+    writes_in_turn_are_the_merged_ones, writing_keeps_the_kinds, writing_keeps_the_shape,
+};
 pub use overlay::Overlay;
+pub use shared::stores_are_shared;
 pub use store::Store;
+pub use view::View;
 pub use writes::{Writes, merge};

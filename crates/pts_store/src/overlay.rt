@@ -35,7 +35,7 @@ impl<'a> Model for Overlay<'a> {
 
     ghost use Rattle.pts_store.specs.Bases.{below, depth_of};
 
-    ghost view = { λ o. record { stands = accepted (below o.base) o.writes; writes = o.writes; depth = depth_of o.base } };
+    ghost view = { λ o. record { stands = accepted (below o.base) o.writes; below = below o.base; writes = o.writes; depth = depth_of o.base } };
 
     ghost size = { λ o. o.depth };
 }
@@ -45,6 +45,7 @@ impl<'a> Overlay<'a> {
     #[tactic(auto, using(crate::proofs::Changes::nothing_accepted))]
     pub fn over_store(alloc: Global, store: &'a Store) -> Overlay<'a>
         ensures stands { result.stands ≡ store.entry.now }
+        ensures below { result.below ≡ store.entry.now }
         ensures writes { result.writes ≡ [] }
     {
         Overlay {
@@ -57,6 +58,7 @@ impl<'a> Overlay<'a> {
     #[tactic(auto, using(crate::proofs::Changes::nothing_accepted))]
     pub fn over(alloc: Global, lower: &'a Overlay<'a>) -> Overlay<'a>
         ensures stands { result.stands ≡ lower.entry.now.stands }
+        ensures below { result.below ≡ lower.entry.now.stands }
         ensures writes { result.writes ≡ [] }
     {
         Overlay {
@@ -83,6 +85,7 @@ impl<'a> Overlay<'a> {
     pub fn set(&mut self, array: u32, index: u32, value: Value) -> Result<(), NoMemory>
         ensures stands { OnOk result (self.new.stands ≡ put_cell self.old.stands array index value) }
         ensures writes { OnOk result (PutsCell self.old.writes self.new.writes array index value) }
+        ensures below { self.new.below ≡ self.old.below }
         ensures same { OnErr result (self.new.stands ≡ self.old.stands) }
         ensures unwritten { OnErr result (SameWrites self.old.writes self.new.writes) }
     {
@@ -93,15 +96,17 @@ impl<'a> Overlay<'a> {
     pub fn put_all(&mut self, writes: &Writes) -> Result<(), NoMemory>
         ensures stands { OnOk result (self.new.stands ≡ accepted self.old.stands writes.now) }
         ensures writes { OnOk result (Merges self.old.writes writes.now self.new.writes) }
+        ensures below { self.new.below ≡ self.old.below }
         ensures same { OnErr result (self.new.stands ≡ self.old.stands) }
         ensures unwritten { OnErr result (SameWrites self.old.writes self.new.writes) }
     {
         merge(&mut self.writes, writes)
     }
 
-    /// What was written to this overlay.
+    /// What was written to this overlay. Accepted by the store below, it gives the one that the overlay stood for.
     pub fn into_writes(self) -> Writes
-        ensures { result ≡ self.entry.writes }
+        ensures writes { result ≡ self.entry.writes }
+        ensures stands { accepted self.entry.below result ≡ self.entry.stands }
     {
         self.writes
     }
