@@ -52,3 +52,5 @@ pub ruleset nothing_in_blocks = (in_block-empty, in_row-past)
 pub ruleset nothing_in_rows = (in_row-empty, in_band-past)
 
 pub ruleset nothing_in_bands = (in_band-empty, written-past)
+
+pub ruleset nothing_written = (written-empty)

@@ -2,7 +2,7 @@ pub mod Accepting
 pub mod Changes
 pub mod Empty
 pub mod Joining
-pub mod KeptKinds
+pub mod Kept
 pub mod PaddedLists
 pub mod Reading
 pub mod Shown

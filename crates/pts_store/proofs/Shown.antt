@@ -1,5 +1,5 @@
 -- What the cells of a store with writes over it hold, cell by cell.
-use Rattle.std.proofs.Common.{◌≡◌, ℕ, suc, zero, ◌+◌, ◌<◌, ◌≤◌, ◌⊎◌, Some, None, List, [], ◌∷◌, length, get_or, refl, ap, ◌∙◌, sym, arith, ⊎_elim, zero-add}
+use Rattle.std.proofs.Common.{◌≡◌, ℕ, suc, zero, ◌+◌, ◌≤◌, None, List, [], ◌∷◌, length, refl, ap, ◌∙◌, sym, arith, ⊎_elim, zero-add}
 use Rattle.std.specs.Prelude.{Option, slice_get}
 use Rattle.std.specs.Option.{option_map}
 use Rattle.std.proofs.lemmas.Bool.{cases_lt}

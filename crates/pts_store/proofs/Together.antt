@@ -1,12 +1,11 @@
 -- Writes together: what merging them in turn or in another order gives, cell by cell.
-use Rattle.std.proofs.Common.{◌≡◌, ◌≢◌, ℕ, ◌⊎◌, Bool, true, false, Option, Some, None, List, [], ◌∷◌, ◌++◌, refl, ap, ◌∙◌, sym, ⊎_elim, arith}
+use Rattle.std.proofs.Common.{◌≡◌, ℕ, ◌⊎◌, Bool, true, false, Option, Some, None, List, [], ◌∷◌, ◌++◌, refl, ap, ◌∙◌, sym, ⊎_elim}
 use Rattle.std.specs.Prelude.{◌==◌, ◌&&◌, if◌then◌else◌}
-use Rattle.std.proofs.lemmas.Bool.Decides.{nat_tests}
 use Rattle.pts_types.specs.declared.value.Value.{Value}
-use Rattle.pts_store.specs.Laws.{AreApart, AcceptedInTurn, MergeInAnyOrder, AcceptedInAnyOrder, MergesAreAssociative, NoSteps, OneStepMore, StepsOfBoth}
-use Rattle.pts_store.specs.Steps.{Step, AreOf, step_at, last_at}
-use Rattle.pts_store.specs.Stores.{Store, accepted}
-use Rattle.pts_store.specs.Writes.{Writes, written, over, SameWrites, PutsCell, Merges}
+use Rattle.pts_store.specs.Laws.{AcceptedInTurn, MergeInAnyOrder, AcceptedInAnyOrder, MergesAreAssociative, NoSteps, OneStepMore, StepsOfBoth}
+use Rattle.pts_store.specs.Steps.{Step, step_at, last_at}
+use Rattle.pts_store.specs.Stores.{accepted}
+use Rattle.pts_store.specs.Writes.{written, over}
 use Rattle.pts_store.proofs.Changes.{accepted-merged, arrays_with-over, arrays_with-same}
 use Rattle.pts_store.proofs.Empty.{written-empty}
 

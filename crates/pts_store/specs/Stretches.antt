@@ -1,5 +1,5 @@
 -- A stretch of a list that shows what is written, while all else stays.
-use Rattle.std.specs.Prelude.{◌≡◌, ℕ, ◌+◌, ◌<◌, ◌≤◌, Option, List, slice_get}
+use Rattle.std.specs.Prelude.{◌≡◌, ℕ, ◌+◌, ◌<◌, ◌≤◌, List, slice_get}
 use Rattle.std.specs.Option.{option_map}
 
 -- `size` places from `base` on show what `writes` has for them

@@ -1,4 +1,5 @@
-//! Cells of arrays, and what calls write into them.
+//! What the cells of all arrays hold, and what calls, chunks and tasks write into them: a store, overlays over it and over one
+//! another, and the writes that they give, to be merged and accepted.
 #![tactic(auto)]
 
 mod band;
@@ -12,6 +13,10 @@ mod row;
 mod shared;
 mod slot;
 mod store;
+#[cfg(test)]
+mod swaps;
+#[cfg(test)]
+mod tests;
 mod view;
 mod writes;
 

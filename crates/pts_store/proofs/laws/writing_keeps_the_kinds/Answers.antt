@@ -1,4 +1,4 @@
-use Rattle.pts_store.proofs.KeptKinds.{accepting_keeps_kinds, putting_keeps_kinds}
+use Rattle.pts_store.proofs.Kept.{accepting_keeps_kinds, putting_keeps_kinds}
 use Rattle.pts_store.proofs.laws.writing_keeps_the_kinds.Goals as goal
 
 pub returns-clause-accepted : goal.returns-clause-accepted

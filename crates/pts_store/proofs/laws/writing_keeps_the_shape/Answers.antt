@@ -1,4 +1,4 @@
-use Rattle.pts_store.proofs.KeptKinds.{accepting_keeps_shape, putting_keeps_shape}
+use Rattle.pts_store.proofs.Kept.{accepting_keeps_shape, putting_keeps_shape}
 use Rattle.pts_store.proofs.laws.writing_keeps_the_shape.Goals as goal
 
 pub returns-clause-accepted : goal.returns-clause-accepted

@@ -1,4 +1,4 @@
-use Rattle.std.proofs.Common.{◌≡◌, ◌<◌, ◌≤◌, ℕ, [], get_or, length}
+use Rattle.std.proofs.Common.{◌<◌, ◌≤◌, ℕ, [], get_or, length}
 use Rattle.pts_store.specs.Levels.{SameBand, FitsRow}
 use Rattle.pts_store.proofs.band.Band.reserve.Given as goal
 

@@ -1,4 +1,4 @@
-use Rattle.std.proofs.Common.{◌≡◌, ◌<◌, ◌≤◌, ℕ, [], get_or, length}
+use Rattle.std.proofs.Common.{◌<◌, ◌≤◌, ℕ, [], get_or, length}
 use Rattle.pts_store.specs.Levels.{Same, FitsPage}
 use Rattle.pts_store.specs.Writes.{in_block}
 use Rattle.pts_store.proofs.block.Block.reserve.Given as goal

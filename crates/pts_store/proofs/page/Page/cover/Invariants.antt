@@ -1,4 +1,4 @@
-use Rattle.std.proofs.Common.{◌≡◌, ℕ, length, nat_lt, if◌then◌else◌}
+use Rattle.std.proofs.Common.{◌≡◌, ℕ, nat_lt, if◌then◌else◌}
 use Rattle.pts_store.specs.Writes.{in_page, over}
 use Rattle.pts_store.specs.Levels.{FitsPage}
 use Rattle.pts_store.proofs.page.Page.cover.Given as goal

@@ -1,4 +1,4 @@
-use Rattle.std.proofs.Common.{◌≡◌, ◌<◌, ◌≤◌, ℕ, [], get_or, length}
+use Rattle.std.proofs.Common.{◌<◌, ◌≤◌, ℕ, [], get_or, length}
 use Rattle.pts_store.specs.Levels.{Same, FitsBlock}
 use Rattle.pts_store.specs.Writes.{in_row}
 use Rattle.pts_store.proofs.row.Row.reserve.Given as goal

@@ -1,4 +1,4 @@
-use Rattle.std.proofs.Common.{◌≡◌, ◌<◌, ◌≤◌, ℕ, [], get_or, length}
+use Rattle.std.proofs.Common.{◌<◌, ◌≤◌, ℕ, [], get_or, length}
 use Rattle.pts_store.specs.Levels.{FitsBand}
 use Rattle.pts_store.specs.Writes.{SameWrites}
 use Rattle.pts_store.proofs.writes.Writes.reserve.Given as goal

@@ -1,4 +1,4 @@
-use Rattle.std.proofs.Common.{ap, ◌∙◌, [], sym, subst, arith, ℕ, ◌+◌, ◌*◌}
+use Rattle.std.proofs.Common.{◌∙◌, [], subst, arith, ◌*◌}
 use Rattle.std.proofs.lemmas.List.{get_or_default}
 use Rattle.pts_store.specs.Stores.{cells_with}
 use Rattle.pts_store.specs.Stretches.{Shows}

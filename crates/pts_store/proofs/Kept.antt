@@ -1,5 +1,5 @@
 -- What stays in a store whatever is written, and what stays where values of the right kinds are written.
-use Rattle.std.proofs.Common.{◌≡◌, ◌≢◌, ℕ, suc, zero, ◌<◌, ◌⊎◌, inl, inr, ⊎_elim, Option, Some, None, List, [], ◌∷◌, length, get_or, set, refl, ap, ◌∙◌, sym, subst, arith}
+use Rattle.std.proofs.Common.{◌≡◌, ℕ, suc, zero, ◌⊎◌, inl, inr, ⊎_elim, Option, Some, None, List, [], ◌∷◌, length, set, refl, ap, ◌∙◌, sym, subst, arith}
 use Rattle.std.specs.Prelude.{slice_get}
 use Rattle.std.specs.Option.{option_map}
 use Rattle.std.proofs.lemmas.Grind.{common_steps}
@@ -7,10 +7,9 @@ use Rattle.std.proofs.lemmas.Option.{none-some, same_Some}
 use Rattle.pts_types.specs.Arithmetic.{IsValueOf}
 use Rattle.pts_types.specs.declared.value.Kind.{Kind}
 use Rattle.pts_types.specs.declared.value.Value.{Value}
-use Rattle.pts_store.specs.Kinds.{HasKinds, WritesKinds}
-use Rattle.pts_store.specs.Laws.{SameShape, AcceptingKeepsShape, PuttingKeepsShape, AcceptingKeepsKinds, PuttingKeepsKinds}
-use Rattle.pts_store.specs.Stores.{Store, cells_in, put_cell, shown, accepted}
-use Rattle.pts_store.specs.Writes.{Writes, written}
+use Rattle.pts_store.specs.Laws.{AcceptingKeepsShape, PuttingKeepsShape, AcceptingKeepsKinds, PuttingKeepsKinds}
+use Rattle.pts_store.specs.Stores.{Store, cells_in, put_cell, shown}
+use Rattle.pts_store.specs.Writes.{written}
 use Rattle.pts_store.proofs.Changes.{length-accepted, length-cells_in-accepted, slice_get-accepted}
 
 pub accepting_keeps_shape : AcceptingKeepsShape
@@ -66,3 +65,11 @@ putting_keeps_kinds kinds store array index value has is = record {
       (λ old. has.cell a i x old)
       (put_in store array a index i value x e);
 }
+
+-- ---- cells
+
+pub length-cells_in-put_cell : (store : Store) (b j : ℕ) (value : Value) (a : ℕ) → length (cells_in (put_cell store b j value) a) ≡ length (cells_in store a)
+length-cells_in-put_cell store b j value a = (putting_keeps_shape store b j value).cells a
+
+-- a cell is still one, whatever is written
+pub ruleset cells_stay = (length-cells_in-put_cell, length-cells_in-accepted)
