@@ -16,7 +16,7 @@ use std::marker::Model;
 /// The number of cells of a page.
 pub const PAGE: u32 = 64;
 
-// A page with more cells than this takes the room of a whole one.
+// A page is as long as its last cell asks for up to this length, and else a whole one, so that it grows no more.
 const FEW: usize = 4;
 
 /// A list of slots, which may be shorter than a page.
@@ -112,12 +112,18 @@ fn pad_slots(slots: &mut Vec<Slot>, count: usize) -> Result<(), AllocError>
     ensures count { OnOk result (count ≤ vec_len slots.new) }
     ensures kept { (k : ℕ) → get_or slots.new.items k Nothing ≡ get_or slots.old.items k Nothing }
 {
-    let held = slots.len();
-    if count <= held {
+    if count <= slots.len() {
         return Ok(());
     }
-    if held >= FEW && held < PAGE as usize {
-        slots.reserve(PAGE as usize - held)?;
+    slots.resize(page_len(count), Slot::Nothing)
+}
+
+fn page_len(count: usize) -> usize
+    ensures { count ≤ result }
+{
+    if count <= FEW || count > PAGE as usize {
+        count
+    } else {
+        PAGE as usize
     }
-    slots.resize(count, Slot::Nothing)
 }
