@@ -67,12 +67,17 @@ fn keeps_each(writes: &mut Writes, places: &[(u32, u32)], first: u64) -> bool {
     right
 }
 
-// Whether each place has the later value, or the earlier one where `stays`.
-fn has_each(writes: &Writes, places: &[(u32, u32)], first: u64) -> bool {
+// Whether each place has the later value, where there is one, and else what the first cell alone had before.
+fn gives_each(target: &Writes, later: &Writes, places: &[(u32, u32)], first: Value) -> bool {
     let mut right = true;
     for (array, index) in places {
-        let value = Value::U64(first.wrapping_add(*index as u64));
-        right = right && writes.get(*array, *index) == Some(value);
+        let before = if *array == 0 && *index == 0 {
+            Some(first)
+        } else {
+            None
+        };
+        let after = later.get(*array, *index).or(before);
+        right = right && target.get(*array, *index) == after;
     }
     right
 }
@@ -106,7 +111,7 @@ fn a_merge_gives_the_later_values_or_nothing(rt: HostRuntime) -> Result<(), Fail
     target.set(0, 0, Value::Bool(true))?;
     target.set(2, 70, Value::I64(-7))?;
     match merge(&mut target, &later) {
-        Ok(()) => assert!(rt; has_each(&target, PLACES, 5)),
+        Ok(()) => assert!(rt; gives_each(&target, &later, PLACES, Value::Bool(true))),
         Err(NoMemory) => {
             assert!(rt; target.get(0, 0) == Some(Value::Bool(true)));
             assert!(rt; target.get(4_095, 1_048_575).is_none());
