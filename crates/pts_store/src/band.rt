@@ -95,9 +95,7 @@ impl Band {
             self.rows[at].cover(&rows[at]);
         }
     }
-}
 
-impl Band {
     /// Writes the values into the arrays from `base` on. What lies past the arrays or their cells is passed over.
     #[tactic(auto, unfolding(crate::specs::Writes::in_band))]
     pub fn write_into(&self, arrays: &mut [Cells], base: usize)

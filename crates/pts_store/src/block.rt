@@ -88,9 +88,7 @@ impl Block {
             self.pages[at].cover(&pages[at]);
         }
     }
-}
 
-impl Block {
     /// Writes the values into the cells from `base` on. What lies past the cells is passed over.
     #[tactic(auto, unfolding(crate::specs::Writes::in_block))]
     pub fn write_into(&self, cells: &mut [Value], base: usize)

@@ -91,9 +91,7 @@ impl Page {
             }
         }
     }
-}
 
-impl Page {
     /// Writes the values into the cells from `base` on. What lies past the cells is passed over.
     #[tactic(auto, unfolding(crate::specs::Writes::in_page))]
     pub fn write_into(&self, cells: &mut [Value], base: usize)

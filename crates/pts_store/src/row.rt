@@ -84,9 +84,7 @@ impl Row {
             self.blocks[at].cover(&blocks[at]);
         }
     }
-}
 
-impl Row {
     /// Writes the values into the cells. What lies past them is passed over.
     #[tactic(auto, unfolding(crate::specs::Writes::in_row))]
     pub fn write_into(&self, cells: &mut [Value])

@@ -22,7 +22,7 @@ fn moved<V: View>(
     requires { IsCell (V.stands view.now) array from }
     ensures { IfOk result (λ w. (a i : ℕ) → written w a i ≡ (if a == array && i == to then slice_get (cells_in (V.stands view.now) array) from else None)) }
 {
-    let value = view.value_at(array, from);
+    let value = view.cell(array, from);
     let mut layer = view.layer(alloc);
     layer.set(array, to, value)?;
     Ok(layer.into_writes())

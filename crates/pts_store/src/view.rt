@@ -15,7 +15,7 @@ pub trait View {
     ghost stands: { Self → List (List Cell) };
 
     /// The value of a cell.
-    fn value_at(&self, array: u32, index: u32) -> Value
+    fn cell(&self, array: u32, index: u32) -> Value
         requires { IsCell (stands self.now) array index }
         ensures { Some result ≡ slice_get (cells_in (stands self.now) array) index };
 
@@ -29,7 +29,7 @@ pub trait View {
 impl View for Store {
     ghost stands = { λ store. store };
 
-    fn value_at(&self, array: u32, index: u32) -> Value {
+    fn cell(&self, array: u32, index: u32) -> Value {
         self.cell(array, index)
     }
 
@@ -41,7 +41,7 @@ impl View for Store {
 impl<'v> View for Overlay<'v> {
     ghost stands = { λ overlay. overlay.stands };
 
-    fn value_at(&self, array: u32, index: u32) -> Value {
+    fn cell(&self, array: u32, index: u32) -> Value {
         self.cell(array, index)
     }
 
