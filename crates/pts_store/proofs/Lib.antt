@@ -1,0 +1,9 @@
+pub mod Accepting
+pub mod Changes
+pub mod Empty
+pub mod Joining
+pub mod Kept
+pub mod PaddedLists
+pub mod Reading
+pub mod Shown
+pub mod Together

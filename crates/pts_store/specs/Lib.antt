@@ -1,0 +1,9 @@
+pub mod Bases
+pub mod Kinds
+pub mod Laws
+pub mod Levels
+pub mod Overlays
+pub mod Steps
+pub mod Stores
+pub mod Stretches
+pub mod Writes

@@ -1,0 +1,127 @@
+//! The writes to 64 cells that follow one another.
+
+ghost use Rattle.std.specs.Prelude.{◌≡◌, ◌≤◌, ℕ, [], OnOk, OnErr, get_or, length, vec_len};
+ghost use Rattle.pts_store.specs.declared.slot.Slot.TheVariants.{Nothing};
+ghost use Rattle.pts_store.specs.Levels.{Puts, Same, Covers, FitsPage};
+ghost use Rattle.pts_store.specs.Stores.{shown};
+ghost use Rattle.pts_store.specs.Stretches.{Shows};
+ghost use Rattle.pts_store.specs.Writes.{in_page};
+
+use crate::padding::{Part, least};
+use crate::slot::Slot;
+use pts_types::Value;
+use std::alloc::{AllocError, Global};
+use std::marker::Model;
+
+/// The number of cells of a page.
+pub const PAGE: u32 = 64;
+
+// A page is as long as its last cell asks for up to this length, and else a whole one, so that it grows no more.
+const FEW: usize = 4;
+
+/// A list of slots, which may be shorter than a page.
+#[derive(Drop)]
+pub struct Page {
+    slots: Vec<Slot>,
+}
+
+impl Model for Page {
+    ghost use Rattle.std.specs.Prelude.{List};
+    ghost use Rattle.pts_store.specs.declared.slot.Slot.{Slot};
+
+    ghost Value = { List Slot };
+
+    ghost view = { λ p. p.slots.items };
+}
+
+impl Part for Page {
+    ghost empty = { [] };
+
+    fn nothing(alloc: Global) -> Page {
+        Page {
+            slots: Vec::new(alloc),
+        }
+    }
+}
+
+impl Page {
+    /// The value at a place.
+    #[tactic(auto, unfolding(crate::specs::Writes::in_page))]
+    pub fn get(&self, at: u32) -> Option<Value>
+        ensures { result ≡ in_page self.now at }
+    {
+        match self.slots.get(at as usize) {
+            Some(slot) => slot.value(),
+            None => None,
+        }
+    }
+
+    /// Writes a value.
+    #[tactic(auto, unfolding(crate::specs::Writes::in_page))]
+    pub fn set(&mut self, at: u32, value: Value) -> Result<(), AllocError>
+        ensures ok { OnOk result (Puts (in_page self.old) (in_page self.new) at value) }
+        ensures err { OnErr result (Same (in_page self.old) (in_page self.new)) }
+    {
+        let at = at as usize;
+        pad_slots(&mut self.slots, at + 1)?;
+        self.slots[at] = Slot::of(value);
+        Ok(())
+    }
+
+    /// Makes room for the cells of another page. What is written stays.
+    #[tactic(auto, unfolding(crate::specs::Writes::in_page))]
+    pub fn reserve(&mut self, later: &Page) -> Result<(), AllocError>
+        ensures fits { OnOk result (FitsPage later.now self.new) }
+        ensures same { Same (in_page self.old) (in_page self.new) }
+    {
+        pad_slots(&mut self.slots, later.slots.len())
+    }
+
+    /// Writes what another page has.
+    #[tactic(auto, unfolding(crate::specs::Writes::in_page))]
+    pub fn cover(&mut self, later: &Page)
+        requires { FitsPage later.now self.old }
+        ensures { Covers (in_page self.old) (in_page later.now) (in_page self.new) }
+    {
+        let slots = later.slots.as_slice();
+        for at in 0..slots.len() {
+            match slots[at] {
+                Slot::Nothing => (),
+                slot => self.slots[at] = slot,
+            }
+        }
+    }
+
+    /// Writes the values into the cells from `base` on. What lies past the cells is passed over.
+    #[tactic(auto, unfolding(crate::specs::Writes::in_page))]
+    pub fn write_into(&self, cells: &mut [Value], base: usize)
+        requires { base ≤ length cells.old }
+        ensures { Shows shown (in_page self.now) base 64 cells.old cells.new }
+    {
+        let slots = self.slots.as_slice();
+        let count = least(least(slots.len(), PAGE as usize), cells.len() - base);
+        for at in 0..count {
+            cells[base + at] = slots[at].over(cells[base + at]);
+        }
+    }
+}
+
+fn pad_slots(slots: &mut Vec<Slot>, count: usize) -> Result<(), AllocError>
+    ensures count { OnOk result (count ≤ vec_len slots.new) }
+    ensures kept { (k : ℕ) → get_or slots.new.items k Nothing ≡ get_or slots.old.items k Nothing }
+{
+    if count <= slots.len() {
+        return Ok(());
+    }
+    slots.resize(page_len(count), Slot::Nothing)
+}
+
+fn page_len(count: usize) -> usize
+    ensures { count ≤ result }
+{
+    if count <= FEW || count > PAGE as usize {
+        count
+    } else {
+        PAGE as usize
+    }
+}
