@@ -8,15 +8,12 @@ use Rattle.pts_lowering.specs.declared.forms.CellRange.{CellRange}
 use Rattle.pts_program.specs.declared.info.ArrayInfo.{ArrayInfo}
 use Rattle.pts_program.specs.declared.info.StatementInfo.{StatementInfo}
 use Rattle.pts_program.specs.declared.lists.Lists.{Lists}
+use Rattle.pts_store.specs.Stores.{Store, cells_in}
 use Rattle.pts_eval.specs.declared.work.Work.{Work}
 use Rattle.pts_eval.specs.declared.work.Work.TheVariants as works
 use Rattle.pts_eval.specs.Works.{work_of}
 
 -- ---- the store
-
--- the arrays' cells, in the order of the declarations
-abbrev pub Store : Type 0
-Store = List (List Value)
 
 abbrev pub start_cells : List ArrayInfo → Store
 start_cells arrays = map (λ a. a.cells) arrays
@@ -24,10 +21,6 @@ start_cells arrays = map (λ a. a.cells) arrays
 -- what the arrays hold before the first statement
 abbrev pub start_store : Lists → Store
 start_store lists = start_cells lists.arrays
-
--- the cells of an array by its number; none where there is no such array
-abbrev pub cells_in : Store → ℕ → List Value
-cells_in store array = elim (slice_get store array) [ None ↦ [] | Some cells ↦ cells ]
 
 -- the cells of a range
 abbrev pub range_in : Store → CellRange → List Value

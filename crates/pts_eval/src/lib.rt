@@ -9,6 +9,7 @@ mod work;
 
 pub use expressions::{Local, eval_expr};
 pub use functions::eval_fn;
-pub use store::Store;
+pub use pts_store::{Overlay, Store, View, Writes, merge};
+pub use store::start_store;
 pub use unbuilt::later;
 pub use work::{Work, work_of};

@@ -10,8 +10,9 @@ use Rattle.pts_boards.specs.declared.pool.Pool.{Pool}
 use Rattle.pts_program.specs.declared.info.StatementInfo.{StatementInfo}
 use Rattle.pts_program.specs.declared.lists.Lists.{Lists}
 use Rattle.pts_eval.specs.declared.work.Work.{Work}
+use Rattle.pts_store.specs.Stores.{Store}
 use Rattle.pts_eval.specs.Works.{work_of, is_later, item_of, first_later}
-use Rattle.pts_eval.specs.Runs.{Answer, Store, start_store, Does, Performs, Going, Run, Performing, nothing, goes_on, answered}
+use Rattle.pts_eval.specs.Runs.{Answer, start_store, Does, Performs, Going, Run, Performing, nothing, goes_on, answered}
 use Rattle.pts_run.specs.Output.{IsRunText}
 use Rattle.pts_run.specs.Writing.{WritesRun, WritesRunPart}
 use Rattle.pts_run.specs.Text.{line_of, text_of}

@@ -12,7 +12,7 @@ use crate::lines::{push_printed, push_reduced, push_refusal};
 use crate::refusal::Refusal;
 use crate::sums::sum_between;
 use pts_boards::Pool;
-use pts_eval::{Store, Work, work_of};
+use pts_eval::{Store, Work, start_store, work_of};
 use pts_io::{Sink, SinkFault, write_all};
 use pts_program::{Program, StatementInfo};
 use pts_syntax::print;
@@ -64,7 +64,7 @@ pub fn run_program<K: Sink>(
     ensures part { WritesRunPart pool program.now (K.written sink.old) (K.written sink.new) }
     ensures counted { IsCounted result (K.faults sink.old) (K.faults sink.new) }
 {
-    let store = Store::start(alloc, program)?;
+    let store = start_store(alloc, program)?;
     let mut line = Vec::new(alloc);
     for (place, statement) in program.statements().iter().enumerate() {
         line.clear();

@@ -1,6 +1,6 @@
 //! What the arrays hold while a script runs.
 
-ghost use Rattle.std.specs.Prelude.{◌≡◌, IfOk, Some, slice_get};
+ghost use Rattle.std.specs.Prelude.{◌≡◌, [], ◌∷◌, ◌++◌, IfOk, OnErr, OnOk, Some, slice_get};
 ghost use Rattle.pts_store.specs.Stores.{cells_in, IsCell, accepted};
 
 use crate::cells::Cells;
@@ -26,12 +26,32 @@ impl Model for Store {
 }
 
 impl Store {
+    /// A store without arrays.
+    pub fn new(alloc: Global) -> Store
+        ensures { result ≡ [] }
+    {
+        Store {
+            arrays: Vec::new(alloc),
+        }
+    }
+
+    /// One array more, which holds these values and has the next number. With want of memory the store stays as it is.
+    pub fn push(&mut self, alloc: Global, values: &[Value]) -> Result<(), NoMemory>
+        ensures ok { OnOk result (self.new ≡ self.old ++ values.now ∷ []) }
+        ensures err { OnErr result (self.new ≡ self.old) }
+    {
+        Ok(push_cells(alloc, &mut self.arrays, values)?)
+    }
+
     /// A store of arrays that hold these values.
     pub fn start(alloc: Global, arrays: &[Items<Value>]) -> Result<Store, NoMemory>
         ensures { IfOk result (λ store. store ≡ arrays.now) }
     {
-        let arrays = copies(alloc, arrays)?;
-        Ok(Store { arrays })
+        let mut store = Store::new(alloc);
+        for array in arrays {
+            store.push(alloc, array.as_slice())?;
+        }
+        Ok(store)
     }
 
     /// The cells of an array; none where there is no such array.
@@ -60,12 +80,11 @@ impl Store {
     }
 }
 
-fn copies(alloc: Global, arrays: &[Items<Value>]) -> Result<Vec<Cells>, AllocError>
-    ensures { IfOk result (λ cells. cells.items ≡ arrays.now) }
+fn push_cells(alloc: Global, arrays: &mut Vec<Cells>, values: &[Value]) -> Result<(), AllocError>
+    ensures ok { OnOk result (arrays.new.items ≡ arrays.old.items ++ values.now ∷ []) }
+    ensures err { OnErr result (arrays.new.items ≡ arrays.old.items) }
 {
-    let mut all = Vec::with_capacity(alloc, arrays.len())?;
-    for array in arrays {
-        all.push(Cells::new(alloc, array.as_slice())?)?;
-    }
-    Ok(all)
+    let cells = Cells::new(alloc, values)?;
+    arrays.push(cells)?;
+    Ok(())
 }

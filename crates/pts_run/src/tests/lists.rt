@@ -1,7 +1,7 @@
 //! The lists of a program, and the store and the statements of its run.
 
 use super::built;
-use pts_eval::{Store, Work, later, work_of};
+use pts_eval::{Work, later, start_store, work_of};
 use pts_lowering::CellRange;
 use pts_program::{Program, StatementInfo};
 use pts_types::Value;
@@ -161,7 +161,7 @@ fn statements_have_numbers(rt: HostRuntime) -> Result<(), Fail> {
 fn a_store_starts_with_the_cells_of_the_arrays(rt: HostRuntime) -> Result<(), Fail> {
     let items = "array a: u64[2] = list 7, 8; array b: bool[1] = fill true; print b;";
     let program = built(rt.alloc(), "", items)?;
-    let store = Store::start(rt.alloc(), &program).ok().ok_or("no store")?;
+    let store = start_store(rt.alloc(), &program).ok().ok_or("no store")?;
     assert_eq!(rt; store.cells(0), [Value::U64(7), Value::U64(8)].as_slice());
     assert_eq!(rt; store.cells(1), [Value::Bool(true)].as_slice());
     assert!(rt; store.cells(2).is_empty());
