@@ -44,6 +44,13 @@ impl Program {
         Program { lists }
     }
 
+    /// The lists are those of a script that breaks no rule, so that every law of programs holds of them.
+    pub fn keeps_its_promises(&self)
+        ensures { spec.IsProgram self.now }
+    {
+        let _lists = &self.lists;
+    }
+
     /// The arrays, in the order of their declarations.
     pub fn arrays(&self) -> &[ArrayInfo]
         ensures { result.now ≡ self.now.arrays }
