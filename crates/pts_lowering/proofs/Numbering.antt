@@ -6,7 +6,7 @@ use Rattle.pts_rules.specs.Parts.{Name}
 use Rattle.pts_rules.specs.declared.meaning.Meaning.{Meaning}
 use Rattle.pts_rules.specs.Known.{Entry, Scope, function_number, is_function, number_among}
 use Rattle.pts_code.proofs.Scopes.{count_cons}
-use Rattle.pts_lowering.specs.Fitting.{IsNumbered}
+use Rattle.pts_lowering.specs.Fitting.{HasNumbers}
 
 abbrev among : (Meaning → Bool) → Scope → ℕ
 among is_one scope = count_by (λ entry. is_one entry.1) scope
@@ -25,5 +25,5 @@ number_below is_one (entry ∷ scope) name n h =
     by_name false true all rest more e = let less = rest e in omega (arith, less, more)
     by_name false false all rest more e = let less = rest e in omega (arith, less, more)
 
-pub function_few : (scope : Scope) (name : Name) (n : ℕ) → IsNumbered scope → function_number scope name ≡ Some n → n < 2 ^ 32
+pub function_few : (scope : Scope) (name : Name) (n : ℕ) → HasNumbers scope → function_number scope name ≡ Some n → n < 2 ^ 32
 function_few scope name n numbered e = let less = number_below is_function scope name n e in let few = numbered.functions in omega (arith, less, few)

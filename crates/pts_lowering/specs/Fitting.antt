@@ -18,7 +18,7 @@ pub record IsWord (z : ℤ) : Type 0 where
   pub high : z <ℤ pos (2 ^ 32)
 
 -- the numbers of arrays and functions have 32 bits, and no array is longer than 2^20
-pub record IsNumbered (scope : Scope) : Type 0 where
+pub record HasNumbers (scope : Scope) : Type 0 where
   pub room : HasRoom scope
   pub functions : count_by (λ entry. is_function entry.1) scope ≤ 2 ^ 32 - 1
 
@@ -60,5 +60,5 @@ pub record IsHead (scope : Scope) (x : Clause) : Type 0 where
 
 -- sound statements
 pub record CanLower (scope : Scope) (xs : List Simple) : Type 0 where
-  pub numbered : IsNumbered scope
+  pub numbered : HasNumbers scope
   pub sound : All (IsSound scope) xs

@@ -4,7 +4,7 @@ ghost use Rattle.std.specs.Prelude.{◌≡◌, IsTrue};
 ghost use Rattle.pts_rules.specs.Known as known;
 ghost use Rattle.pts_rules.specs.Mistyped as rules;
 ghost use Rattle.pts_tree.specs.Spelling.{if_there};
-ghost use Rattle.pts_lowering.specs.Fitting.{HasCells, IsNumbered, IsSummable};
+ghost use Rattle.pts_lowering.specs.Fitting.{HasCells, HasNumbers, IsSummable};
 ghost use Rattle.pts_lowering.specs.Forms as spec;
 
 use crate::forms::{
@@ -21,7 +21,7 @@ use pts_tree::{Call, CallForm, Op};
 use pts_types::{Kind, ScalarOp, Value};
 
 fn lower_for_each(scope: &Scope, call: &Call) -> ForEach
-    requires numbered { IsNumbered scope.now }
+    requires numbered { HasNumbers scope.now }
     requires cells { HasCells scope.now call.now }
     ensures { result ≡ spec.for_each scope.now call.now }
 {
@@ -33,7 +33,7 @@ fn lower_for_each(scope: &Scope, call: &Call) -> ForEach
 }
 
 fn lower_transform(scope: &Scope, call: &Call) -> Transform
-    requires numbered { IsNumbered scope.now }
+    requires numbered { HasNumbers scope.now }
     requires cells { HasCells scope.now call.now }
     ensures { result ≡ spec.transform scope.now call.now }
 {
@@ -47,7 +47,7 @@ fn lower_transform(scope: &Scope, call: &Call) -> Transform
 }
 
 fn lower_search(scope: &Scope, call: &Call) -> Search
-    requires numbered { IsNumbered scope.now }
+    requires numbered { HasNumbers scope.now }
     requires cells { HasCells scope.now call.now }
     ensures { result ≡ spec.search scope.now call.now }
 {
@@ -83,7 +83,7 @@ fn needed_value(kind: Kind, value: Option<Value>) -> Value
 }
 
 fn lower_needed_operation(scope: &Scope, op: &Option<Op>) -> Operation
-    requires { IsNumbered scope.now }
+    requires { HasNumbers scope.now }
     ensures { result ≡ spec.needed_operation scope.now op.now }
 {
     match op {
@@ -93,7 +93,7 @@ fn lower_needed_operation(scope: &Scope, op: &Option<Op>) -> Operation
 }
 
 fn lower_reduction(scope: &Scope, call: &Call) -> Reduction
-    requires numbered { IsNumbered scope.now }
+    requires numbered { HasNumbers scope.now }
     requires cells { HasCells scope.now call.now }
     requires summable { IsSummable scope.now call.now }
     ensures { result ≡ spec.reduction scope.now call.now }
@@ -110,7 +110,7 @@ fn lower_reduction(scope: &Scope, call: &Call) -> Reduction
 }
 
 fn lower_scan(scope: &Scope, order: ScanOrder, call: &Call) -> Scan
-    requires numbered { IsNumbered scope.now }
+    requires numbered { HasNumbers scope.now }
     requires cells { HasCells scope.now call.now }
     requires summable { IsSummable scope.now call.now }
     ensures { result ≡ spec.scan scope.now order call.now }
@@ -129,7 +129,7 @@ fn lower_scan(scope: &Scope, order: ScanOrder, call: &Call) -> Scan
 /// A call whose numbers have 32 bits and whose values have their kinds.
 #[tactic(auto, using(crate::proofs::Summing::summable))]
 pub fn lower_call(scope: &Scope, call: &Call) -> LoweredCall
-    requires numbered { IsNumbered scope.now }
+    requires numbered { HasNumbers scope.now }
     requires cells { HasCells scope.now call.now }
     requires right { IsTrue (rules.form_right call.now.form scope.now call.now) }
     ensures { result ≡ spec.call_by_form call.now.form scope.now call.now }

@@ -6,7 +6,7 @@ ghost use Rattle.pts_rules.specs.Known as known;
 ghost use Rattle.pts_rules.specs.Mistyped as rules;
 ghost use Rattle.pts_types.specs.declared.value.Kind.TheVariants as kinds;
 ghost use Rattle.pts_starts.specs.Starts as starts;
-ghost use Rattle.pts_lowering.specs.Fitting.{HasInitialIndex, IsHead, IsIndex, IsNumbered};
+ghost use Rattle.pts_lowering.specs.Fitting.{HasInitialIndex, IsHead, IsIndex, HasNumbers};
 ghost use Rattle.pts_lowering.specs.Forms as spec;
 
 use crate::forms::{Induction, InitialValue, LoopClause, LoopReduction, LoweredLoop};
@@ -21,7 +21,7 @@ use std::alloc::{AllocError, Global};
 
 #[tactic(auto, using(crate::proofs::Heads::identity_fits))]
 fn lower_reduction(scope: &Scope, clause: &ReduceClause) -> LoopReduction
-    requires numbered { IsNumbered scope.now }
+    requires numbered { HasNumbers scope.now }
     requires cell { IsIndex scope.now clause.now.cell }
     requires right { IsTrue (rules.reduce_right scope.now clause.now) }
     ensures { result ≡ spec.loop_reduction scope.now clause.now }
@@ -34,7 +34,7 @@ fn lower_reduction(scope: &Scope, clause: &ReduceClause) -> LoopReduction
 }
 
 fn lower_initial(scope: &Scope, kind: Kind, initial: &Initial) -> InitialValue
-    requires numbered { IsNumbered scope.now }
+    requires numbered { HasNumbers scope.now }
     requires cell { HasInitialIndex scope.now initial.now }
     requires right { IsTrue (rules.initial_right scope.now kind initial.now) }
     ensures { result ≡ spec.initial_value scope.now kind initial.now }
@@ -55,7 +55,7 @@ fn lower_step(scope: &Scope, clause: &InductClause) -> Value
 
 #[tactic(auto, using(crate::proofs::Heads::induction_starts))]
 fn lower_induction(scope: &Scope, clause: &InductClause) -> Induction
-    requires numbered { IsNumbered scope.now }
+    requires numbered { HasNumbers scope.now }
     requires cell { HasInitialIndex scope.now clause.now.initial }
     requires right { IsTrue (rules.induct_right scope.now clause.now) }
     ensures { result ≡ spec.induction scope.now clause.now }
@@ -69,7 +69,7 @@ fn lower_induction(scope: &Scope, clause: &InductClause) -> Induction
 
 #[tactic(auto, using(crate::proofs::Heads::reduce_clause, crate::proofs::Heads::induct_clause))]
 fn lower_clause(scope: &Scope, clause: &Clause) -> LoopClause
-    requires numbered { IsNumbered scope.now }
+    requires numbered { HasNumbers scope.now }
     requires clause { IsHead scope.now clause.now }
     ensures { result ≡ spec.loop_clause scope.now clause.now }
 {
@@ -85,7 +85,7 @@ fn lower_clauses(
     scope: &Scope,
     clauses: &[Clause],
 ) -> Result<Items<LoopClause>, AllocError>
-    requires numbered { IsNumbered scope.now }
+    requires numbered { HasNumbers scope.now }
     requires clauses { All (IsHead scope.now) clauses.now }
     ensures { IfOk result (λ y. y ≡ map (spec.loop_clause scope.now) clauses.now) }
 {
@@ -106,7 +106,7 @@ fn signed(number: i128) -> i64
 
 /// A loop whose numbers have their widths and whose clauses are right.
 pub fn lower_loop(alloc: Global, scope: &Scope, x: &Loop) -> Result<LoweredLoop, AllocError>
-    requires numbered { IsNumbered scope.now }
+    requires numbered { HasNumbers scope.now }
     requires clauses { All (IsHead scope.now) x.now.clauses }
     requires first { IsTrue (known.holds kinds.I64 (known.number scope.now x.now.low)) }
     requires step { IsTrue (known.holds kinds.I64 (counts.step_of scope.now x.now.step)) }

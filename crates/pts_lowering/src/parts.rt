@@ -5,7 +5,7 @@ ghost use Rattle.pts_tree.specs.Spelling.{if_there};
 ghost use Rattle.pts_rules.specs.Known as known;
 ghost use Rattle.pts_starts.specs.Starts as starts;
 ghost use Rattle.pts_points.specs.Inside.{HasRoom};
-ghost use Rattle.pts_lowering.specs.Fitting.{IsIndex, IsNumbered, IsRange, IsWord};
+ghost use Rattle.pts_lowering.specs.Fitting.{IsIndex, HasNumbers, IsRange, IsWord};
 ghost use Rattle.pts_lowering.specs.Forms as spec;
 
 use crate::forms::{CellIndex, CellRange, Operation};
@@ -92,7 +92,7 @@ pub fn lower_optional_cell(scope: &Scope, cell: &Option<Cell>) -> Option<CellInd
 /// The number of a function.
 #[tactic(auto, using(crate::proofs::Numbering::function_few))]
 pub fn lower_function(scope: &Scope, name: &Name) -> u32
-    requires { IsNumbered scope.now }
+    requires { HasNumbers scope.now }
     ensures { result ≡ spec.function_at scope.now name.now }
 {
     match scope.function_number(name) {
@@ -103,7 +103,7 @@ pub fn lower_function(scope: &Scope, name: &Name) -> u32
 
 /// The number of a function where there is one.
 pub fn lower_optional_function(scope: &Scope, name: &Option<Name>) -> Option<u32>
-    requires { IsNumbered scope.now }
+    requires { HasNumbers scope.now }
     ensures { result ≡ option_map (spec.function_at scope.now) name.now }
 {
     match name {
@@ -114,7 +114,7 @@ pub fn lower_optional_function(scope: &Scope, name: &Option<Name>) -> Option<u32
 
 /// The number of a function that each call of its form has.
 pub fn lower_needed_function(scope: &Scope, name: &Option<Name>) -> u32
-    requires { IsNumbered scope.now }
+    requires { HasNumbers scope.now }
     ensures { result ≡ spec.needed_function scope.now name.now }
 {
     match name {
@@ -125,7 +125,7 @@ pub fn lower_needed_function(scope: &Scope, name: &Option<Name>) -> u32
 
 /// An operation.
 pub fn lower_operation(scope: &Scope, op: &Op) -> Operation
-    requires { IsNumbered scope.now }
+    requires { HasNumbers scope.now }
     ensures { result ≡ spec.operation_of scope.now op.now }
 {
     match op {

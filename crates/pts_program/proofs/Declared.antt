@@ -9,7 +9,7 @@ use Rattle.pts_tree.specs.declared.script.Item.{Item}
 use Rattle.pts_tree.specs.declared.script.Item.TheVariants as items
 use Rattle.pts_tree.specs.declared.script.Param.{Param}
 use Rattle.pts_code.specs.declared.function.FunctionInfo.{FunctionInfo}
-use Rattle.pts_lowering.specs.Fitting.{IsNumbered}
+use Rattle.pts_lowering.specs.Fitting.{HasNumbers}
 use Rattle.pts_rules.specs.Indices.{is_out_at}
 use Rattle.pts_rules.specs.Counts.{size_of}
 use Rattle.pts_rules.specs.Known.{Entry, Scope, number}
@@ -38,7 +38,7 @@ pub declarable : (standing : Standing) (x : Item) → IsAcceptable standing x �
 declarable standing x a = record { right = a.right; shallow = a.shallow; few = few_function standing.scope standing.statements standing.cells x a.few }
 
 -- where the numbers of the scope have their widths, it can be added to the lists
-pub addable : (standing : Standing) (earlier : ℕ) (x : Item) → IsAcceptable standing x → IsNumbered standing.scope → IsAddable standing.scope earlier x
+pub addable : (standing : Standing) (earlier : ℕ) (x : Item) → IsAcceptable standing x → HasNumbers standing.scope → IsAddable standing.scope earlier x
 addable standing earlier x a numbered = record {
   declarable = declarable standing x a;
   numbered = numbered;

@@ -12,7 +12,7 @@ use Rattle.pts_program.specs.declared.fault.BuildFault.{BuildFault}
 use Rattle.pts_program.specs.declared.fault.BuildFault.TheVariants.{NoMemory}
 use Rattle.pts_program.specs.declared.lists.Lists.{Lists}
 use Rattle.pts_rules.specs.Scopes.{known}
-use Rattle.pts_lowering.specs.Fitting.{IsNumbered}
+use Rattle.pts_lowering.specs.Fitting.{HasNumbers}
 use Rattle.pts_program.specs.Building.{CanAdd, IsUnderWay}
 use Rattle.pts_program.specs.Findings.{IsItemFault}
 use Rattle.pts_program.specs.Faults.{IsClean, IsCleanAt, IsFaultAt, IsFaultOf, IsSound}
@@ -116,8 +116,8 @@ room script n builder way within spelled =
     let front = length_front script.items n within in
     let scope = scope_room script (take n script.items) (drop n script.items) (sym (take-append-drop n script.items)) (λ m le. way.sound m (omega (arith, le, front))) (omega (arith, front, within, few)) in
     let functions = few_functions (take n script.items) in
-    let numbered : IsNumbered (known (take n script.items)) = record { room = scope; functions = omega (arith, functions, front, within, few) } in
-    record { scope = subst IsNumbered (sym way.standing.scope) numbered; items = let e = way.items in omega (arith, e, within, few); statements = way.statements }
+    let numbered : HasNumbers (known (take n script.items)) = record { room = scope; functions = omega (arith, functions, front, within, few) } in
+    record { scope = subst HasNumbers (sym way.standing.scope) numbered; items = let e = way.items in omega (arith, e, within, few); statements = way.statements }
 
 -- the answer of the builder at such an item
 pub refusal : (script : Script) (n : ℕ) (x : Item) (builder : Builder) (fault : BuildFault) → IsUnderWay script n builder → n < length script.items → x ≡ get_or script.items n x

@@ -1,7 +1,7 @@
 -- How far the builder has come.
 use Rattle.std.specs.Prelude.{◌≡◌, ℕ, ◌-◌, ◌<◌, ◌≤◌, ◌^◌, drop, take}
 use Rattle.pts_tree.specs.declared.script.Script.{Script}
-use Rattle.pts_lowering.specs.Fitting.{IsNumbered}
+use Rattle.pts_lowering.specs.Fitting.{HasNumbers}
 use Rattle.pts_program.specs.declared.builder.Builder.{Builder}
 use Rattle.pts_program.specs.Faults.{IsCleanAt}
 use Rattle.pts_program.specs.Lists.{lists_of, with_items}
@@ -9,7 +9,7 @@ use Rattle.pts_program.specs.Standings.{IsStanding}
 
 -- one item more can be counted, and has room in the scope
 pub record CanAdd (builder : Builder) : Type 0 where
-  pub scope : IsNumbered builder.standing.scope
+  pub scope : HasNumbers builder.standing.scope
   pub items : builder.items < 2 ^ 32 - 1
   pub statements : builder.standing.statements ≤ builder.items
 

@@ -9,7 +9,7 @@ use Rattle.pts_rules.specs.Indices.{is_not_affine, is_out_at}
 use Rattle.pts_rules.specs.Parts.{statements}
 use Rattle.pts_rules.specs.Scopes.{known}
 use Rattle.pts_rules.specs.Steps.{is_backward_range}
-use Rattle.pts_lowering.specs.Fitting.{IsNumbered}
+use Rattle.pts_lowering.specs.Fitting.{HasNumbers}
 use Rattle.pts_points.specs.Inside.{IsSound}
 use Rattle.pts_points.specs.Points.{item_points}
 use Rattle.pts_program.specs.declared.standing.Standing.{Standing}
@@ -43,7 +43,7 @@ pub record IsDeclarable (scope : Scope) (x : Item) : Type 0 where
 -- an item that can be added to the lists of those before it, where this many calls stand before its own
 pub record IsAddable (scope : Scope) (earlier : ℕ) (x : Item) : Type 0 where
   pub declarable : IsDeclarable scope x
-  pub numbered : IsNumbered scope
+  pub numbered : HasNumbers scope
   pub sound : All (IsSound scope) (statements x)
   pub few : length (item_points scope earlier x) < 2 ^ 32
 
