@@ -1,0 +1,40 @@
+-- Evaluations of a call: its points at its positions, and lists of them.
+use Rattle.std.specs.Prelude.{ℕ, ◌+◌, Bool, true, false, ◌&&◌, ◌||◌, List, [], ◌∷◌, nat_eq, nat_lt, nat_le, ⊤}
+
+-- the point of this number at a position
+pub record Evaluation : Type 0 where
+  pub position : ℕ
+  pub point : ℕ
+
+abbrev pub at : ℕ → ℕ → Evaluation
+at p k = record { position = p; point = k }
+
+abbrev pub is_same : Evaluation → Evaluation → Bool
+is_same x y = nat_eq x.position y.position && nat_eq x.point y.point
+
+-- x stands before y where position by position is run, and point by point at each
+abbrev pub is_earlier : Evaluation → Evaluation → Bool
+is_earlier x y = nat_lt x.position y.position || (nat_eq x.position y.position && nat_lt x.point y.point)
+
+-- at a position from p on and before q, the point from k on and before m
+abbrev pub is_within : ℕ → ℕ → ℕ → ℕ → Evaluation → Bool
+is_within p q k m x = nat_le p x.position && nat_lt x.position q && nat_le k x.point && nat_lt x.point m
+
+abbrev pub one_if : Bool → ℕ
+one_if true = 1
+one_if false = 0
+
+-- how often an evaluation stands in a list
+abbrev pub times : Evaluation → List Evaluation → ℕ
+times x [] = 0
+times x (y ∷ ys) = one_if (is_same x y) + times x ys
+
+-- a fact of each element
+abbrev pub Each : (Evaluation → Type 0) → List Evaluation → Type 0
+Each P [] = ⊤
+Each P (x ∷ xs) = P x × Each P xs
+
+-- a fact of each element and each one behind it
+abbrev pub Pairs : (Evaluation → Evaluation → Type 0) → List Evaluation → Type 0
+Pairs R [] = ⊤
+Pairs R (x ∷ xs) = Each (R x) xs × Pairs R xs

@@ -1,0 +1,56 @@
+-- Laws of orders.
+use Rattle.std.specs.Prelude.{◌≡◌, ◌↔◌, ℕ, ◌+◌, Bool, true, Option, Some, List, ◌++◌, nat_lt}
+use Rattle.std.specs.Option.{option_map}
+use Rattle.pts_orders.specs.Evaluations.{Evaluation, Each, is_within, is_earlier, one_if}
+use Rattle.pts_orders.specs.Extensions.{IsLinearExtension, IsInOrder, IsIrreflexive, GoesForward, StaysAtPositions, AreCuts}
+use Rattle.pts_orders.specs.Grids.{index_order, strips, Rises, Chunk, chunks, chunks_with}
+use Rattle.pts_orders.specs.Parts.{IsUnmoved, IsBeside, changed}
+use Rattle.pts_orders.specs.Runs.{run, MaySwap}
+
+-- a list is a linear extension exactly where each evaluation stands in it once, and at a lower place than those that it is before
+abbrev pub PlacesTell : Type 0
+PlacesTell =
+    (is_evaluation : Evaluation → Bool) (before : Evaluation → Evaluation → Bool) → IsIrreflexive before
+    → (l : List Evaluation) → IsLinearExtension is_evaluation before l ↔ IsInOrder is_evaluation before l
+
+-- index order is a linear extension of each order that goes forward
+abbrev pub IndexOrderExtends : Type 0
+IndexOrderExtends =
+    (before : Evaluation → Evaluation → Bool) (n first m : ℕ) → GoesForward (is_within 0 n first (first + m)) before
+    → IsLinearExtension (is_within 0 n first (first + m)) before (index_order n first m)
+
+-- a linear extension has the outcome of index order from every state, where evaluations of which neither is before the other commute
+abbrev pub OrdersAgree : Type 0 → Type 0
+OrdersAgree S =
+    (step : Evaluation → S → Option S) (before : Evaluation → Evaluation → Bool) (n first m : ℕ)
+    → ((x y : Evaluation) → is_within 0 n first (first + m) x ≡ true → is_within 0 n first (first + m) y ≡ true
+    → is_earlier x y ≡ true → MaySwap step before x y)
+    → (l : List Evaluation) → IsLinearExtension (is_within 0 n first (first + m)) before l
+    → (s : S) → run step l s ≡ run step (index_order n first m) s
+
+-- strips of all positions, with parts of all points that are cut at cuts, are a linear extension of each order that goes forward
+abbrev pub StripsExtend : Type 0
+StripsExtend =
+    (before : Evaluation → Evaluation → Bool) (n first last : ℕ) (rows ends : List ℕ)
+    → GoesForward (is_within 0 n first last) before → AreCuts before ends → Rises 0 rows n → Rises first ends last
+    → IsLinearExtension (is_within 0 n first last) before (strips 0 rows first ends)
+
+-- chunks in any order are one, of each order that goes forward and stays at positions, where each position is in one of them
+abbrev pub ChunksExtend : Type 0
+ChunksExtend =
+    (before : Evaluation → Evaluation → Bool) (n first m : ℕ) (cs : List Chunk)
+    → GoesForward (is_within 0 n first (first + m)) before → StaysAtPositions before → ((p : ℕ) → chunks_with p cs ≡ one_if (nat_lt p n))
+    → IsLinearExtension (is_within 0 n first (first + m)) before (chunks first m cs)
+
+-- a change that moves none of the evaluations may be made before the run or after it
+abbrev pub ChangesMayWait : Type 0 → Type 0
+ChangesMayWait S =
+    (step : Evaluation → S → Option S) (change : S → S) (l : List Evaluation) → Each (IsUnmoved step change) l
+    → (s : S) → run step l (change s) ≡ option_map change (run step l s)
+
+-- of two parts, the second may be run from the state before both; what the first changes is then made on top
+abbrev pub PartsRunApart : Type 0 → Type 0 → Type 0
+PartsRunApart S C =
+    (step : Evaluation → S → Option S) (change : C → S → S) (xs ys : List Evaluation) → Each (IsBeside step change ys) xs
+    → (s t : S) → run step xs s ≡ Some t
+    → (made : List C) × (t ≡ changed change made s) × (run step (xs ++ ys) s ≡ option_map (changed change made) (run step ys s))

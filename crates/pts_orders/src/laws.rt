@@ -1,0 +1,39 @@
+//! Laws of orders, for whatever runs the evaluations of a call in an order of its own. A type parameter stands for whatever
+//! states, or changes of states, the evaluations have.
+
+ghost use Rattle.pts_orders.specs.Laws as laws;
+
+/// An order is allowed exactly where each evaluation stands in it once, at a lower place than all that it is before.
+pub fn places_tell_what_is_allowed()
+    ensures { laws.PlacesTell }
+{}
+
+/// Index order is allowed, whatever is before what, as long as nothing is before what is earlier.
+pub fn index_order_is_allowed()
+    ensures { laws.IndexOrderExtends }
+{}
+
+/// All orders that are allowed have one outcome, that of index order, where evaluations commute unless one is before the other.
+pub fn orders_agree<S>()
+    ensures { laws.OrdersAgree S }
+{}
+
+/// Strips are allowed where their parts are cut at cuts.
+pub fn strips_are_allowed()
+    ensures { laws.StripsExtend }
+{}
+
+/// Chunks are allowed in any order where no evaluation is before one of another position.
+pub fn chunks_are_allowed()
+    ensures { laws.ChunksExtend }
+{}
+
+/// A change that no evaluation sees may be made before a run or after it.
+pub fn changes_may_wait<S>()
+    ensures { laws.ChangesMayWait S }
+{}
+
+/// Two parts that see nothing of one another may both be run from the state before them.
+pub fn parts_run_apart<S, C>()
+    ensures { laws.PartsRunApart S C }
+{}
