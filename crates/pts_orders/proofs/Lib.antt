@@ -6,3 +6,4 @@ pub mod Lists
 pub mod Places
 pub mod SideBySide
 pub mod Strips
+pub mod Turns

@@ -1,3 +1,4 @@
+pub mod Endings
 pub mod Evaluations
 pub mod Extensions
 pub mod Grids

@@ -1,5 +1,5 @@
 -- What comes of evaluations that are run along a list.
-use Rattle.std.specs.Prelude.{◌≡◌, Bool, true, false, Option, Some, None, List, [], ◌∷◌}
+use Rattle.std.specs.Prelude.{◌≡◌, Bool, false, Option, Some, List, [], ◌∷◌}
 use Rattle.std.specs.Option.{option_and_then}
 use Rattle.pts_orders.specs.Evaluations.{Evaluation}
 
@@ -7,11 +7,6 @@ use Rattle.pts_orders.specs.Evaluations.{Evaluation}
 abbrev pub run : {S : Type 0} → (Evaluation → S → Option S) → List Evaluation → S → Option S
 run step [] s = Some s
 run step (x ∷ xs) s = option_and_then (run step xs) (step x s)
-
--- what a run in code has come to: its state, unless it has thrown
-abbrev pub ended : {S : Type 0} → Bool → S → Option S
-ended true s = Some s
-ended false s = None
 
 -- either of the two may go first
 abbrev pub Commute : {S : Type 0} → (Evaluation → S → Option S) → Evaluation → Evaluation → Type 0
