@@ -68,10 +68,14 @@ pub fn run_strips<S, B: Body<S>>(
 ) -> Result<(), Stop>
     ensures { Ends (run (B.acts body.now) (strips positions.entry.from positions.entry.ends.now points.entry.from points.entry.ends.now) state.old) result state.new }
 {
-    let mut from = positions.from;
-    for end in positions.ends {
-        run_strip(body, Stretch { from, to: *end }, points, state)?;
-        from = *end;
+    let mut start = positions.from;
+    for row in positions.ends {
+        let strip = Stretch {
+            from: start,
+            to: *row,
+        };
+        run_strip(body, strip, points, state)?;
+        start = *row;
     }
     Ok(())
 }

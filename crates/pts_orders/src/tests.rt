@@ -29,7 +29,10 @@ const BOTH: Stretch = Stretch { from: 1, to: 3 };
 #[test]
 fn points_run_one_after_the_other(rt: HostRuntime) {
     let mut state = 0;
-    assert_eq!(rt; run_points(&BODY, 1, Stretch { from: 2, to: 5 }, &mut state), Ok(()));
+    assert_eq!(rt;
+        run_points(&BODY, 1, Stretch { from: 2, to: 5 }, &mut state),
+        Ok(())
+    );
     assert_eq!(rt; state, 12_13_14);
 }
 
@@ -43,7 +46,10 @@ fn a_grid_runs_position_by_position(rt: HostRuntime) {
 #[test]
 fn a_strip_runs_part_by_part(rt: HostRuntime) {
     let mut state = 0;
-    let points = Cuts { from: 1, ends: &[2, 4] };
+    let points = Cuts {
+        from: 1,
+        ends: &[2, 4],
+    };
     assert_eq!(rt; run_strip(&BODY, BOTH, points, &mut state), Ok(()));
     assert_eq!(rt; state, 11_21_12_13_22_23);
 }
@@ -51,8 +57,14 @@ fn a_strip_runs_part_by_part(rt: HostRuntime) {
 #[test]
 fn strips_run_one_after_the_other(rt: HostRuntime) {
     let mut state = 0;
-    let positions = Cuts { from: 1, ends: &[3, 4] };
-    let points = Cuts { from: 1, ends: &[2, 3] };
+    let positions = Cuts {
+        from: 1,
+        ends: &[3, 4],
+    };
+    let points = Cuts {
+        from: 1,
+        ends: &[2, 3],
+    };
     assert_eq!(rt; run_strips(&BODY, positions, points, &mut state), Ok(()));
     assert_eq!(rt; state, 11_21_12_22_31_32);
 }
