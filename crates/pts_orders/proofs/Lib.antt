@@ -1,4 +1,6 @@
+pub mod Apart
 pub mod Chunks
+pub mod Clear
 pub mod Confluence
 pub mod Counting
 pub mod IndexOrder

@@ -1,3 +1,5 @@
+pub mod Conflicts
+pub mod Effects
 pub mod Endings
 pub mod Evaluations
 pub mod Extensions

@@ -1,7 +1,14 @@
 //! Laws of orders, for whatever runs the evaluations of a call in an order of its own. A type parameter stands for whatever
 //! states, or changes of states, the evaluations have.
 
+ghost use Rattle.pts_orders.specs.Conflicts as conflicts;
+ghost use Rattle.pts_orders.specs.Evaluations.{Evaluation};
 ghost use Rattle.pts_orders.specs.Laws as laws;
+
+/// Which cells evaluations touch.
+pub trait Touching<C> {
+    ghost touches: { Evaluation → C → Type 0 };
+}
 
 /// An order is allowed exactly where each evaluation stands in it once, at a lower place than all that it is before.
 pub fn places_tell_what_is_allowed()
@@ -36,4 +43,20 @@ pub fn changes_may_wait<S>()
 /// Two parts that see nothing of one another may both be run from the state before them.
 pub fn parts_run_apart<S, C>()
     ensures { laws.PartsRunApart S C }
+{}
+
+/// Evaluations commute where they are at two positions and share no cell that one of them writes.
+pub fn evaluations_apart_commute<M, C, V, L, N, T: Touching<C>>()
+    ensures { conflicts.ApartCommute M C V L N T.touches }
+{}
+
+/// All orders that are allowed have one outcome, that of index order, where no two evaluations conflict.
+pub fn orders_without_conflict_agree<M, C, V, L, N, T: Touching<C>>()
+    ensures { conflicts.ClearOrdersAgree M C V L N T.touches }
+{}
+
+/// Two parts may both be run from the state before them where no evaluation of the one shares a cell that is written, or a
+/// position, with one of the other.
+pub fn parts_without_conflict_run_apart<M, C, V, L, N, T: Touching<C>>()
+    ensures { conflicts.ApartRunApart M C V L N T.touches }
 {}
