@@ -9,3 +9,4 @@ pub mod Places
 pub mod SideBySide
 pub mod Strips
 pub mod Turns
+pub mod Windows

@@ -7,3 +7,4 @@ pub mod Grids
 pub mod Laws
 pub mod Parts
 pub mod Runs
+pub mod Windows

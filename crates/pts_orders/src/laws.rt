@@ -4,6 +4,7 @@
 ghost use Rattle.pts_orders.specs.Conflicts as conflicts;
 ghost use Rattle.pts_orders.specs.Evaluations.{Evaluation};
 ghost use Rattle.pts_orders.specs.Laws as laws;
+ghost use Rattle.pts_orders.specs.Windows as windows;
 
 /// Which cells evaluations touch.
 pub trait Touching<C> {
@@ -59,4 +60,9 @@ pub fn orders_without_conflict_agree<M, C, V, L, N, T: Touching<C>>()
 /// position, with one of the other.
 pub fn parts_without_conflict_run_apart<M, C, V, L, N, T: Touching<C>>()
     ensures { conflicts.ApartRunApart M C V L N T.touches }
+{}
+
+/// Strips may each be run on the locals of their own positions alone, one after the other over one memory.
+pub fn strips_run_in_windows<M, C, V, L, N>()
+    ensures { windows.StripsInWindows M C V L N }
 {}
