@@ -1,9 +1,9 @@
 -- Strips whose parts are cut at cuts are linear extensions.
-use Rattle.std.proofs.Common.{◌≡◌, ℕ, ◌+◌, ◌-◌, ◌≤◌, ◌<◌, Bool, true, false, List, [], ◌∷◌, refl, arith}
+use Rattle.std.proofs.Common.{◌≡◌, ℕ, zero, suc, ◌+◌, ◌-◌, ◌≤◌, ◌<◌, Bool, true, false, List, [], ◌∷◌, ◌++◌, refl, ap, ◌∙◌, append-nil, arith}
 use Rattle.std.proofs.lemmas.Bool.Decides.{nat_tests}
 use Rattle.pts_orders.specs.Evaluations.{Evaluation, is_earlier, is_within, one_if, times, Pairs}
 use Rattle.pts_orders.specs.Extensions.{IsLinearExtension, GoesForward, AreCuts}
-use Rattle.pts_orders.specs.Grids.{grid, strip, strips, Rises}
+use Rattle.pts_orders.specs.Grids.{points_at, grid, index_order, strip, strips, singles, Rises}
 use Rattle.pts_orders.proofs.Lists.{pairs_append}
 use Rattle.pts_orders.proofs.Counting.{count_grid, count_strip, count_strips, counted, is_counted}
 use Rattle.pts_orders.proofs.IndexOrder.{Allows, pairs_by, across_by, grid_ascends}
@@ -41,7 +41,7 @@ module _ (R : Evaluation → Evaluation → Type 0) (forward : (x y : Evaluation
       let a = v.1 in let b = w.0 in forward x y (grind (arith, nat_tests))))
 
 pub strips_extend : (before : Evaluation → Evaluation → Bool) (n first last : ℕ) (rows ends : List ℕ)
-    → GoesForward (is_within 0 n first last) before → AreCuts before ends → Rises 0 rows n → Rises first ends last
+    → GoesForward (is_within 0 n first last) before → AreCuts (is_within 0 n first last) before ends → Rises 0 rows n → Rises first ends last
     → IsLinearExtension (is_within 0 n first last) before (strips 0 rows first ends)
 unfolding Parts
 strips_extend before n first last rows ends forward cuts h g =
@@ -56,6 +56,28 @@ strips_extend before n first last rows ends forward cuts h g =
           (is_counted y (strips 0 rows first ends) (is_within 0 n first last y) (once y) u));
     }
   where
-    parts : (bs : List ℕ) → AreCuts before bs → Parts (Allows (is_within 0 n first last) before) bs
+    parts : (bs : List ℕ) → AreCuts (is_within 0 n first last) before bs → Parts (Allows (is_within 0 n first last) before) bs
     parts [] c = tt
-    parts (b ∷ bs) c = (λ x y l r _ _. c.0 x y l r, parts bs c.1)
+    parts (b ∷ bs) c = (λ x y l r a b. c.0 x y a b l r, parts bs c.1)
+
+-- ---- strips of one position each
+
+single_strip : (p k m : ℕ) → strip p (suc p - p) k ((k + m) ∷ []) ≡ points_at p k m
+single_strip p k m =
+    let one : suc p - p ≡ 1 = omega arith in
+    let all : (k + m) - k ≡ m = omega arith in
+    ap (λ n. grid p n k ((k + m) - k) ++ []) one ∙ ap (λ n. grid p 1 k n ++ []) all
+    ∙ append-nil (points_at p k m ++ []) ∙ append-nil (points_at p k m)
+
+singles_are_grid : (p n k m : ℕ) → strips p (singles p n) k ((k + m) ∷ []) ≡ grid p n k m
+singles_are_grid p zero k m = refl
+singles_are_grid p (suc n) k m =
+    ap (λ l. l ++ strips (suc p) (singles (suc p) n) k ((k + m) ∷ [])) (single_strip p k m)
+    ∙ ap (λ l. points_at p k m ++ l) (singles_are_grid (suc p) n k m)
+
+singles_rise : (p n q : ℕ) → p + n ≡ q → Rises p (singles p n) q
+singles_rise p zero q e = omega arith
+singles_rise p (suc n) q e = ((let up : p ≤ suc p = omega arith in up), singles_rise (suc p) n q (omega arith))
+
+pub index_order_is_strips : (n first m : ℕ) → (strips 0 (singles 0 n) first ((first + m) ∷ []) ≡ index_order n first m) × Rises 0 (singles 0 n) n
+index_order_is_strips n first m = (singles_are_grid 0 n first m, singles_rise 0 n n (omega arith))

@@ -34,11 +34,12 @@ GoesForward is_evaluation before =
 abbrev pub StaysAtPositions : (Evaluation → Evaluation → Bool) → Type 0
 StaysAtPositions before = (x y : Evaluation) → before x y ≡ true → x.position ≡ y.position
 
--- nothing from a point on is before what has a lower point
-abbrev pub IsCut : (Evaluation → Evaluation → Bool) → ℕ → Type 0
-IsCut before b = (x y : Evaluation) → x.point < b → b ≤ y.point → before y x ≡ false
+-- no evaluation from a point on is before one that has a lower point
+abbrev pub IsCut : (Evaluation → Bool) → (Evaluation → Evaluation → Bool) → ℕ → Type 0
+IsCut is_evaluation before b =
+    (x y : Evaluation) → is_evaluation x ≡ true → is_evaluation y ≡ true → x.point < b → b ≤ y.point → before y x ≡ false
 
 -- each number is a cut
-abbrev pub AreCuts : (Evaluation → Evaluation → Bool) → List ℕ → Type 0
-AreCuts before [] = ⊤
-AreCuts before (b ∷ bs) = IsCut before b × AreCuts before bs
+abbrev pub AreCuts : (Evaluation → Bool) → (Evaluation → Evaluation → Bool) → List ℕ → Type 0
+AreCuts is_evaluation before [] = ⊤
+AreCuts is_evaluation before (b ∷ bs) = IsCut is_evaluation before b × AreCuts is_evaluation before bs

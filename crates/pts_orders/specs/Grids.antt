@@ -26,6 +26,11 @@ abbrev pub strips : ℕ → List ℕ → ℕ → List ℕ → List Evaluation
 strips p [] k ends = []
 strips p (row ∷ rows) k ends = strip p (row - p) k ends ++ strips row rows k ends
 
+-- the ends of strips of one position each, for n positions from p on
+abbrev pub singles : ℕ → ℕ → List ℕ
+singles p zero = []
+singles p (suc n) = suc p ∷ singles (suc p) n
+
 -- numbers that do not fall, from the first on up to the last
 abbrev pub Rises : ℕ → List ℕ → ℕ → Type 0
 Rises first [] last = first ≡ last

@@ -1,9 +1,9 @@
 -- Laws of orders.
-use Rattle.std.specs.Prelude.{◌≡◌, ◌↔◌, ℕ, ◌+◌, Bool, true, Option, Some, List, ◌++◌, nat_lt}
+use Rattle.std.specs.Prelude.{◌≡◌, ◌↔◌, ℕ, ◌+◌, Bool, true, Option, Some, List, [], ◌∷◌, ◌++◌, nat_lt}
 use Rattle.std.specs.Option.{option_map}
 use Rattle.pts_orders.specs.Evaluations.{Evaluation, Each, is_within, is_earlier, one_if}
 use Rattle.pts_orders.specs.Extensions.{IsLinearExtension, IsInOrder, IsIrreflexive, GoesForward, StaysAtPositions, AreCuts}
-use Rattle.pts_orders.specs.Grids.{index_order, strips, Rises, Chunk, chunks, chunks_with}
+use Rattle.pts_orders.specs.Grids.{index_order, strips, singles, Rises, Chunk, chunks, chunks_with}
 use Rattle.pts_orders.specs.Parts.{IsUnmoved, IsBeside, changed}
 use Rattle.pts_orders.specs.Runs.{run, MaySwap}
 
@@ -32,8 +32,13 @@ OrdersAgree S =
 abbrev pub StripsExtend : Type 0
 StripsExtend =
     (before : Evaluation → Evaluation → Bool) (n first last : ℕ) (rows ends : List ℕ)
-    → GoesForward (is_within 0 n first last) before → AreCuts before ends → Rises 0 rows n → Rises first ends last
+    → GoesForward (is_within 0 n first last) before → AreCuts (is_within 0 n first last) before ends → Rises 0 rows n → Rises first ends last
     → IsLinearExtension (is_within 0 n first last) before (strips 0 rows first ends)
+
+-- index order is strips of one position each, with all points in one part
+abbrev pub IndexOrderIsStrips : Type 0
+IndexOrderIsStrips =
+    (n first m : ℕ) → (strips 0 (singles 0 n) first ((first + m) ∷ []) ≡ index_order n first m) × Rises 0 (singles 0 n) n
 
 -- chunks in any order are one, of each order that goes forward and stays at positions, where each position is in one of them
 abbrev pub ChunksExtend : Type 0

@@ -31,6 +31,11 @@ pub fn strips_are_allowed()
     ensures { laws.StripsExtend }
 {}
 
+/// Index order is strips, of one position each, whose ends do not fall.
+pub fn index_order_is_strips()
+    ensures { laws.IndexOrderIsStrips }
+{}
+
 /// Chunks are allowed in any order where no evaluation is before one of another position.
 pub fn chunks_are_allowed()
     ensures { laws.ChunksExtend }
