@@ -37,10 +37,10 @@ ApartCommute M C V L N Touches =
 abbrev pub ClearOrdersAgree : (M C V L N : Type 0) → (Evaluation → C → Type 0) → Type 0
 ClearOrdersAgree M C V L N Touches =
     (cells : Cells M C V) (notes : Locals L N) (effect : Evaluation → L → M → Effect C V N) (writes : Evaluation → Bool) → TouchLaw cells effect Touches writes
-    → (before : Evaluation → Evaluation → Bool) (n first m : ℕ) → OrdersPoints before
-    → IsClear Touches writes before (is_within 0 n first (first + m))
-    → (l : List Evaluation) → IsLinearExtension (is_within 0 n first (first + m)) before l
-    → (s : State M L) → run (step_of cells notes effect) l s ≡ run (step_of cells notes effect) (index_order n first m) s
+    → (before : Evaluation → Evaluation → Bool) (positions first count : ℕ) → OrdersPoints before
+    → IsClear Touches writes before (is_within 0 positions first (first + count))
+    → (l : List Evaluation) → IsLinearExtension (is_within 0 positions first (first + count)) before l
+    → (s : State M L) → run (step_of cells notes effect) l s ≡ run (step_of cells notes effect) (index_order positions first count) s
 
 -- of two parts that are apart, the second may be run from the state before both; what the first has done is then made on top
 abbrev pub ApartRunApart : (M C V L N : Type 0) → (Evaluation → C → Type 0) → Type 0

@@ -27,14 +27,14 @@ pub record State (M L : Type 0) : Type 0 where
   pub locals : List L
 
 abbrev pub locals_at : {M L N : Type 0} → Locals L N → State M L → ℕ → L
-locals_at notes s p = get_or s.locals p notes.nothing
+locals_at notes s position = get_or s.locals position notes.nothing
 
 -- the state after an effect that is no throw
 abbrev pub made : {M C V L N : Type 0} → Cells M C V → Locals L N → Evaluation → Effect C V N → State M L → State M L
 made cells notes x Skips s = s
 made cells notes x Throws s = s
-made cells notes x (Notes n) s = record s { locals = set s.locals x.position (notes.noted (locals_at notes s x.position) x.point n) }
-made cells notes x (Puts c v) s = record s { memory = cells.put s.memory c v }
+made cells notes x (Notes note) s = record s { locals = set s.locals x.position (notes.noted (locals_at notes s x.position) x.point note) }
+made cells notes x (Puts cell value) s = record s { memory = cells.put s.memory cell value }
 
 -- what an evaluation has done
 pub record Change (C V N : Type 0) : Type 0 where
@@ -48,8 +48,8 @@ with_change cells notes change s = made cells notes change.maker change.effect s
 abbrev pub applied : {M C V L N : Type 0} → Cells M C V → Locals L N → Evaluation → Effect C V N → State M L → Option (State M L)
 applied cells notes x Skips s = Some (made cells notes x Skips s)
 applied cells notes x Throws s = None
-applied cells notes x (Notes n) s = Some (made cells notes x (Notes n) s)
-applied cells notes x (Puts c v) s = Some (made cells notes x (Puts c v) s)
+applied cells notes x (Notes note) s = Some (made cells notes x (Notes note) s)
+applied cells notes x (Puts cell value) s = Some (made cells notes x (Puts cell value) s)
 
 -- an evaluation sees the locals of its own position and the memory
 abbrev pub effect_at : {M C V L N : Type 0} → Locals L N → (Evaluation → L → M → Effect C V N) → Evaluation → State M L → Effect C V N

@@ -7,7 +7,7 @@ pub record Evaluation : Type 0 where
   pub point : ℕ
 
 abbrev pub at : ℕ → ℕ → Evaluation
-at p k = record { position = p; point = k }
+at position point = record { position = position; point = point }
 
 abbrev pub is_same : Evaluation → Evaluation → Bool
 is_same x y = nat_eq x.position y.position && nat_eq x.point y.point
@@ -16,9 +16,9 @@ is_same x y = nat_eq x.position y.position && nat_eq x.point y.point
 abbrev pub is_earlier : Evaluation → Evaluation → Bool
 is_earlier x y = nat_lt x.position y.position || (nat_eq x.position y.position && nat_lt x.point y.point)
 
--- at a position from p on and before q, the point from k on and before m
+-- at a position from a start on and before an end, a point from the first one on and before the last number
 abbrev pub is_within : ℕ → ℕ → ℕ → ℕ → Evaluation → Bool
-is_within p q k m x = nat_le p x.position && nat_lt x.position q && nat_le k x.point && nat_lt x.point m
+is_within start end first last x = nat_le start x.position && nat_lt x.position end && nat_le first x.point && nat_lt x.point last
 
 abbrev pub one_if : Bool → ℕ
 one_if true = 1

@@ -16,36 +16,36 @@ PlacesTell =
 -- index order is a linear extension of each order that goes forward
 abbrev pub IndexOrderExtends : Type 0
 IndexOrderExtends =
-    (before : Evaluation → Evaluation → Bool) (n first m : ℕ) → GoesForward (is_within 0 n first (first + m)) before
-    → IsLinearExtension (is_within 0 n first (first + m)) before (index_order n first m)
+    (before : Evaluation → Evaluation → Bool) (positions first count : ℕ) → GoesForward (is_within 0 positions first (first + count)) before
+    → IsLinearExtension (is_within 0 positions first (first + count)) before (index_order positions first count)
 
 -- a linear extension has the outcome of index order from every state, where evaluations of which neither is before the other commute
 abbrev pub OrdersAgree : Type 0 → Type 0
 OrdersAgree S =
-    (step : Evaluation → S → Option S) (before : Evaluation → Evaluation → Bool) (n first m : ℕ)
-    → ((x y : Evaluation) → is_within 0 n first (first + m) x ≡ true → is_within 0 n first (first + m) y ≡ true
+    (step : Evaluation → S → Option S) (before : Evaluation → Evaluation → Bool) (positions first count : ℕ)
+    → ((x y : Evaluation) → is_within 0 positions first (first + count) x ≡ true → is_within 0 positions first (first + count) y ≡ true
     → is_earlier x y ≡ true → MaySwap step before x y)
-    → (l : List Evaluation) → IsLinearExtension (is_within 0 n first (first + m)) before l
-    → (s : S) → run step l s ≡ run step (index_order n first m) s
+    → (l : List Evaluation) → IsLinearExtension (is_within 0 positions first (first + count)) before l
+    → (s : S) → run step l s ≡ run step (index_order positions first count) s
 
 -- strips of all positions, with parts of all points that are cut at cuts, are a linear extension of each order that goes forward
 abbrev pub StripsExtend : Type 0
 StripsExtend =
-    (before : Evaluation → Evaluation → Bool) (n first last : ℕ) (rows ends : List ℕ)
-    → GoesForward (is_within 0 n first last) before → AreCuts (is_within 0 n first last) before ends → Rises 0 rows n → Rises first ends last
-    → IsLinearExtension (is_within 0 n first last) before (strips 0 rows first ends)
+    (before : Evaluation → Evaluation → Bool) (positions first last : ℕ) (rows ends : List ℕ)
+    → GoesForward (is_within 0 positions first last) before → AreCuts (is_within 0 positions first last) before ends → Rises 0 rows positions → Rises first ends last
+    → IsLinearExtension (is_within 0 positions first last) before (strips 0 rows first ends)
 
 -- index order is strips of one position each, with all points in one part
 abbrev pub IndexOrderIsStrips : Type 0
 IndexOrderIsStrips =
-    (n first m : ℕ) → (strips 0 (singles 0 n) first ((first + m) ∷ []) ≡ index_order n first m) × Rises 0 (singles 0 n) n
+    (positions first count : ℕ) → (strips 0 (singles 0 positions) first ((first + count) ∷ []) ≡ index_order positions first count) × Rises 0 (singles 0 positions) positions
 
 -- chunks in any order are one, of each order that goes forward and stays at positions, where each position is in one of them
 abbrev pub ChunksExtend : Type 0
 ChunksExtend =
-    (before : Evaluation → Evaluation → Bool) (n first m : ℕ) (cs : List Chunk)
-    → GoesForward (is_within 0 n first (first + m)) before → StaysAtPositions before → ((p : ℕ) → chunks_with p cs ≡ one_if (nat_lt p n))
-    → IsLinearExtension (is_within 0 n first (first + m)) before (chunks first m cs)
+    (before : Evaluation → Evaluation → Bool) (positions first count : ℕ) (parts : List Chunk)
+    → GoesForward (is_within 0 positions first (first + count)) before → StaysAtPositions before → ((position : ℕ) → chunks_with position parts ≡ one_if (nat_lt position positions))
+    → IsLinearExtension (is_within 0 positions first (first + count)) before (chunks first count parts)
 
 -- a change that moves none of the evaluations may be made before the run or after it
 abbrev pub ChangesMayWait : Type 0 → Type 0
