@@ -5,6 +5,7 @@ pub mod Confluence
 pub mod Counting
 pub mod IndexOrder
 pub mod Lists
+pub mod PartEnds
 pub mod Places
 pub mod SideBySide
 pub mod Strips

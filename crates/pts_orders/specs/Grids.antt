@@ -1,5 +1,5 @@
 -- Lists of evaluations: grids, strips and chunks.
-use Rattle.std.specs.Prelude.{◌≡◌, ◌≤◌, ℕ, zero, suc, ◌+◌, ◌-◌, Bool, List, [], ◌∷◌, ◌++◌, nat_le, nat_lt, ◌&&◌}
+use Rattle.std.specs.Prelude.{◌≡◌, ◌≤◌, ℕ, zero, suc, ◌+◌, ◌-◌, Bool, List, [], ◌∷◌, ◌++◌, nat_le, nat_lt, ◌&&◌, if◌then◌else◌}
 use Rattle.pts_orders.specs.Evaluations.{Evaluation, at, one_if}
 
 -- so many points at a position, from the first one on
@@ -30,6 +30,13 @@ strips start (row ∷ rows) first ends = strip start (row - start) first ends ++
 abbrev pub singles : ℕ → ℕ → List ℕ
 singles start zero = []
 singles start (suc height) = suc start ∷ singles (suc start) height
+
+-- the ends of parts of the points from the first one on, where a point that is joined to the next one is in one part with it
+abbrev pub part_ends : (ℕ → Bool) → ℕ → ℕ → List ℕ
+part_ends joined first zero = []
+part_ends joined first (suc zero) = suc first ∷ []
+part_ends joined first (suc (suc count)) =
+    if joined first then part_ends joined (suc first) (suc count) else suc first ∷ part_ends joined (suc first) (suc count)
 
 -- numbers that do not fall, from the first on up to the last
 abbrev pub Rises : ℕ → List ℕ → ℕ → Type 0

@@ -1,9 +1,9 @@
 -- Laws of orders.
-use Rattle.std.specs.Prelude.{◌≡◌, ◌↔◌, ℕ, ◌+◌, Bool, true, Option, Some, List, [], ◌∷◌, ◌++◌, nat_lt}
+use Rattle.std.specs.Prelude.{◌≡◌, ◌↔◌, ℕ, suc, ◌+◌, ◌≤◌, ◌<◌, Bool, true, false, Option, Some, List, [], ◌∷◌, ◌++◌, nat_lt}
 use Rattle.std.specs.Option.{option_map}
 use Rattle.pts_orders.specs.Evaluations.{Evaluation, Each, is_within, is_earlier, one_if}
-use Rattle.pts_orders.specs.Extensions.{IsLinearExtension, IsInOrder, IsIrreflexive, GoesForward, StaysAtPositions, AreCuts}
-use Rattle.pts_orders.specs.Grids.{index_order, strips, singles, Rises, Chunk, chunks, chunks_with}
+use Rattle.pts_orders.specs.Extensions.{IsLinearExtension, IsInOrder, IsIrreflexive, GoesForward, StaysAtPositions, IsCut, AreCuts}
+use Rattle.pts_orders.specs.Grids.{index_order, strips, singles, part_ends, Rises, Chunk, chunks, chunks_with}
 use Rattle.pts_orders.specs.Parts.{IsUnmoved, IsBeside, changed}
 use Rattle.pts_orders.specs.Runs.{run, MaySwap}
 
@@ -34,6 +34,14 @@ StripsExtend =
     (before : Evaluation → Evaluation → Bool) (positions first last : ℕ) (rows ends : List ℕ)
     → GoesForward (is_within 0 positions first last) before → AreCuts (is_within 0 positions first last) before ends → Rises 0 rows positions → Rises first ends last
     → IsLinearExtension (is_within 0 positions first last) before (strips 0 rows first ends)
+
+-- parts end at cuts where each point that is not joined to the next one ends before a cut
+abbrev pub PartsEndAtCuts : Type 0
+PartsEndAtCuts =
+    (before : Evaluation → Evaluation → Bool) (joined : ℕ → Bool) (positions first count : ℕ)
+    → ((k : ℕ) → first ≤ k → suc k < first + count → joined k ≡ false → IsCut (is_within 0 positions first (first + count)) before (suc k))
+    → AreCuts (is_within 0 positions first (first + count)) before (part_ends joined first count)
+    × Rises first (part_ends joined first count) (first + count)
 
 -- index order is strips of one position each, with all points in one part
 abbrev pub IndexOrderIsStrips : Type 0

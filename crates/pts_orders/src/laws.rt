@@ -31,6 +31,11 @@ pub fn strips_are_allowed()
     ensures { laws.StripsExtend }
 {}
 
+/// Where points that belong together are joined, the parts end at cuts, and the ends do not fall.
+pub fn parts_end_at_cuts()
+    ensures { laws.PartsEndAtCuts }
+{}
+
 /// Index order is strips, of one position each, whose ends do not fall.
 pub fn index_order_is_strips()
     ensures { laws.IndexOrderIsStrips }

@@ -21,8 +21,8 @@ pub use body::{Body, Stop};
 pub use laws::{
     Touching, changes_may_wait, chunks_are_allowed, evaluations_apart_commute,
     index_order_is_allowed, index_order_is_strips, orders_agree, orders_without_conflict_agree,
-    parts_run_apart, parts_without_conflict_run_apart, places_tell_what_is_allowed,
-    strips_are_allowed, strips_run_in_windows,
+    parts_end_at_cuts, parts_run_apart, parts_without_conflict_run_apart,
+    places_tell_what_is_allowed, strips_are_allowed, strips_run_in_windows,
 };
 pub use runs::{run_grid, run_points, run_strip, run_strips};
 pub use stretch::{Cuts, Stretch};
