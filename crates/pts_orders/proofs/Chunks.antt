@@ -32,6 +32,7 @@ module _ (R : Evaluation → Evaluation → Type 0) (forward : (x y : Evaluation
       let one = h y.position in
       apart x y (λ same. absurd (grind (arith, nat_tests)))))
 
+-- chunks that have each position once are a linear extension, in any order
 pub chunks_extend : (before : Evaluation → Evaluation → Bool) (n first m : ℕ) (cs : List Chunk)
     → GoesForward (is_within 0 n first (first + m)) before → StaysAtPositions before → ((p : ℕ) → chunks_with p cs ≡ one_if (nat_lt p n))
     → IsLinearExtension (is_within 0 n first (first + m)) before (chunks first m cs)

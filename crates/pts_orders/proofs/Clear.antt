@@ -41,6 +41,7 @@ apart {C} Touches writes before x y h free none = record {
         by true p f q = absurd (clash (ap (λ b. b || writes y) p))
         by false p true q = absurd (clash (ap (λ b. b || writes y) p ∙ q))
 
+-- without conflict a linear extension has the outcome of index order
 pub clear_orders_agree : {M C V L N : Type 0} (Touches : Evaluation → C → Type 0) (cells : Cells M C V) (notes : Locals L N)
     (effect : Evaluation → L → M → Effect C V N) (writes : Evaluation → Bool) → TouchLaw cells effect Touches writes
     → (before : Evaluation → Evaluation → Bool) (n first m : ℕ) → OrdersPoints before
@@ -53,6 +54,7 @@ clear_orders_agree Touches cells notes effect writes law before n first m points
     (apart Touches writes before x y (lower before points x y earlier free) free (clear x y a b)))
     l extends s
 
+-- parts that are apart may both be run from the state before them
 pub apart_run_apart : {M C V L N : Type 0} (Touches : Evaluation → C → Type 0) (cells : Cells M C V) (notes : Locals L N)
     (effect : Evaluation → L → M → Effect C V N) (writes : Evaluation → Bool) → TouchLaw cells effect Touches writes
     → (xs ys : List Evaluation) → Each (λ x. Each (AreApart Touches writes x) ys) xs

@@ -5,6 +5,7 @@ use Rattle.pts_orders.specs.Evaluations.{Evaluation, is_same, one_if, times, Eac
 use Rattle.pts_orders.specs.Runs.{run, Commute, MaySwap}
 use Rattle.pts_orders.proofs.Lists.{itself, times-append, split, each_from, each_at, each_both, pairs_to, pairs_without}
 
+-- two lists are run one after the other
 pub run-append : {S : Type 0} (step : Evaluation → S → Option S) (xs ys : List Evaluation) (s : S)
     → run step (xs ++ ys) s ≡ option_and_then (run step ys) (run step xs s)
 run-append step [] ys s = refl
@@ -44,6 +45,7 @@ to_front step (y ∷ front) x back h s =
     behind step y (front ++ x ∷ back) (x ∷ (front ++ back)) (to_front step front x back h.1) s
     ∙ swapped step y x (front ++ back) h.0 s
 
+-- the first evaluation of all is brought to the front of the list; what stood before it commutes with it
 pub confluent : {S : Type 0} (step : Evaluation → S → Option S) (before : Evaluation → Evaluation → Bool) (all l : List Evaluation)
     → ((y : Evaluation) → times y l ≡ times y all) → Pairs (MaySwap step before) all → Pairs (λ y z. before z y ≡ false) l
     → (s : S) → run step l s ≡ run step all s

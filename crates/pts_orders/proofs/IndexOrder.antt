@@ -18,6 +18,7 @@ pairs_by R Q xs h f = pairs_weaker (λ x. 1 ≤ times x xs) R Q f xs (each_from 
 abbrev pub Allows : (Evaluation → Bool) → (Evaluation → Evaluation → Bool) → Evaluation → Evaluation → Type 0
 Allows is_evaluation before x y = is_evaluation x ≡ true → is_evaluation y ≡ true → before y x ≡ false
 
+-- what stands in one list is paired with what stands in another
 pub across_by : (R : Evaluation → Evaluation → Type 0) (xs ys : List Evaluation)
     → ((x y : Evaluation) → 1 ≤ times x xs → 1 ≤ times y ys → R x y) → Each (λ x. Each (R x) ys) xs
 across_by R xs ys f = each_from (λ x. Each (R x) ys) xs (λ x h. each_from (R x) ys (λ y k. f x y h k))
@@ -38,6 +39,7 @@ row_ascends p k (suc m) = (
   row_ascends p (suc k) m,
 )
 
+-- each evaluation of a grid is earlier than all behind it
 pub grid_ascends : (p n k m : ℕ) → Pairs (λ x y. is_earlier x y ≡ true) (grid p n k m)
 grid_ascends p zero k m = tt
 grid_ascends p (suc n) k m =
@@ -47,6 +49,7 @@ grid_ascends p (suc n) k m =
     let w = counted y (grid (suc p) n k m) (suc p) (suc p + n) k (k + m) (count_grid y (suc p) n (suc p + n) k m (k + m) refl refl) g in
     let b = w.0 in grind (arith, nat_tests)))
 
+-- index order is a linear extension of an order that goes forward
 pub index_order_extends : (before : Evaluation → Evaluation → Bool) (n first m : ℕ) → GoesForward (is_within 0 n first (first + m)) before
     → IsLinearExtension (is_within 0 n first (first + m)) before (index_order n first m)
 index_order_extends before n first m forward =
@@ -59,6 +62,7 @@ index_order_extends before n first m forward =
           (is_counted y (grid 0 n first m) (is_within 0 n first (first + m) y) (once y) g) earlier);
     }
 
+-- a linear extension has the outcome of index order
 pub extensions_agree : {S : Type 0} (step : Evaluation → S → Option S) (before : Evaluation → Evaluation → Bool) (n first m : ℕ)
     → ((x y : Evaluation) → is_within 0 n first (first + m) x ≡ true → is_within 0 n first (first + m) y ≡ true
     → is_earlier x y ≡ true → MaySwap step before x y)

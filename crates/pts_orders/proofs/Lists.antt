@@ -12,6 +12,7 @@ same_is x y h =
 pub itself : (x : Evaluation) → is_same x x ≡ true
 itself x = grind (arith, nat_tests)
 
+-- each list has its share of the count
 pub times-append : (x : Evaluation) (xs ys : List Evaluation) → times x (xs ++ ys) ≡ times x xs + times x ys
 times-append x [] ys = omega arith
 times-append x (y ∷ xs) ys = let r = times-append x xs ys in omega arith

@@ -28,6 +28,7 @@ module _ (joined : ℕ → Bool) where
       by true p rest = rest
       by false p rest = (at_ends first (omega arith) (omega arith) p, rest)
 
+-- the ends are cuts, and lead up to the last point
 pub parts_end_at_cuts : (before : Evaluation → Evaluation → Bool) (joined : ℕ → Bool) (positions first count : ℕ)
     → ((k : ℕ) → first ≤ k → suc k < first + count → joined k ≡ false → IsCut (is_within 0 positions first (first + count)) before (suc k))
     → AreCuts (is_within 0 positions first (first + count)) before (part_ends joined first count)

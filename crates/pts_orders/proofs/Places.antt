@@ -66,6 +66,7 @@ module _ (before : Evaluation → Evaluation → Bool) (irreflexive : IsIrreflex
           let two : place y (z ∷ zs) ≡ suc (place y zs) = rw (other y u) refl in
           omega arith
 
+-- the two ways to say that a list is in order
 pub places_tell : (is_evaluation : Evaluation → Bool) (before : Evaluation → Evaluation → Bool) → IsIrreflexive before
     → (l : List Evaluation) → IsLinearExtension is_evaluation before l ↔ IsInOrder is_evaluation before l
 places_tell is_evaluation before irreflexive l = (

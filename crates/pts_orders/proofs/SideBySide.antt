@@ -5,6 +5,7 @@ use Rattle.pts_orders.specs.Evaluations.{Evaluation, Each}
 use Rattle.pts_orders.specs.Parts.{IsUnmoved, IsBeside, changed}
 use Rattle.pts_orders.specs.Runs.{run}
 
+-- a change that moves no evaluation may be made after them
 pub may_wait : {S : Type 0} (step : Evaluation → S → Option S) (change : S → S) (l : List Evaluation) → Each (IsUnmoved step change) l
     → (s : S) → run step l (change s) ≡ option_map change (run step l s)
 may_wait step change [] h s = refl
@@ -23,6 +24,7 @@ unchanged : {S : Type 0} (o : Option S) → o ≡ option_map (λ s. s) o
 unchanged None = refl
 unchanged (Some s) = refl
 
+-- a second part may be run from the state before the first
 pub run_apart : {S C : Type 0} (step : Evaluation → S → Option S) (change : C → S → S) (xs ys : List Evaluation) → Each (IsBeside step change ys) xs
     → (s t : S) → run step xs s ≡ Some t
     → (made : List C) × (t ≡ changed change made s) × (run step (xs ++ ys) s ≡ option_map (changed change made) (run step ys s))

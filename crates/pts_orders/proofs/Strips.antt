@@ -40,6 +40,7 @@ module _ (R : Evaluation → Evaluation → Type 0) (forward : (x y : Evaluation
       let w = counted y (strips row rows k ends) row q k last (count_strips y row rows q k ends last h.1 g) u in
       let a = v.1 in let b = w.0 in forward x y (grind (arith, nat_tests))))
 
+-- strips are a linear extension of an order that goes forward, where parts end at cuts
 pub strips_extend : (before : Evaluation → Evaluation → Bool) (n first last : ℕ) (rows ends : List ℕ)
     → GoesForward (is_within 0 n first last) before → AreCuts (is_within 0 n first last) before ends → Rises 0 rows n → Rises first ends last
     → IsLinearExtension (is_within 0 n first last) before (strips 0 rows first ends)
@@ -79,5 +80,6 @@ singles_rise : (p n q : ℕ) → p + n ≡ q → Rises p (singles p n) q
 singles_rise p zero q e = omega arith
 singles_rise p (suc n) q e = ((let up : p ≤ suc p = omega arith in up), singles_rise (suc p) n q (omega arith))
 
+-- index order is strips of one position each
 pub index_order_is_strips : (n first m : ℕ) → (strips 0 (singles 0 n) first ((first + m) ∷ []) ≡ index_order n first m) × Rises 0 (singles 0 n) n
 index_order_is_strips n first m = (singles_are_grid 0 n first m, singles_rise 0 n n (omega arith))

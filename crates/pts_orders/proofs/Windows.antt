@@ -184,6 +184,7 @@ module _ {M C V L N : Type 0} (cells : Cells M C V) (notes : Locals L N) where
     behind_nothing None = refl
     behind_nothing (Some s) = refl
 
+    -- from the first position on
     pub strips_in_windows : (n : ℕ) (rows : List ℕ) (k : ℕ) (ends : List ℕ) → Rises 0 rows n → (m : M)
         → run (step_of cells notes effect) (strips 0 rows k ends) (fresh notes n m) ≡ in_windows cells notes effect 0 rows k ends m
     strips_in_windows n rows k ends h m =

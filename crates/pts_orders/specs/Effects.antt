@@ -26,6 +26,7 @@ pub record State (M L : Type 0) : Type 0 where
   pub memory : M
   pub locals : List L
 
+-- the locals of a position
 abbrev pub locals_at : {M L N : Type 0} → Locals L N → State M L → ℕ → L
 locals_at notes s position = get_or s.locals position notes.nothing
 
@@ -41,6 +42,7 @@ pub record Change (C V N : Type 0) : Type 0 where
   pub maker : Evaluation
   pub effect : Effect C V N
 
+-- the state after a change
 abbrev pub with_change : {M C V L N : Type 0} → Cells M C V → Locals L N → Change C V N → State M L → State M L
 with_change cells notes change s = made cells notes change.maker change.effect s
 
@@ -55,6 +57,7 @@ applied cells notes x (Puts cell value) s = Some (made cells notes x (Puts cell 
 abbrev pub effect_at : {M C V L N : Type 0} → Locals L N → (Evaluation → L → M → Effect C V N) → Evaluation → State M L → Effect C V N
 effect_at notes effect x s = effect x (locals_at notes s x.position) s.memory
 
+-- the state after an evaluation
 abbrev pub step_of : {M C V L N : Type 0} → Cells M C V → Locals L N → (Evaluation → L → M → Effect C V N) → Evaluation → State M L → Option (State M L)
 step_of cells notes effect x s = applied cells notes x (effect_at notes effect x s) s
 

@@ -6,9 +6,11 @@ pub record Evaluation : Type 0 where
   pub position : ℕ
   pub point : ℕ
 
+-- an evaluation by its numbers
 abbrev pub at : ℕ → ℕ → Evaluation
 at position point = record { position = position; point = point }
 
+-- a position and a point are those of another
 abbrev pub is_same : Evaluation → Evaluation → Bool
 is_same x y = nat_eq x.position y.position && nat_eq x.point y.point
 
@@ -20,6 +22,7 @@ is_earlier x y = nat_lt x.position y.position || (nat_eq x.position y.position &
 abbrev pub is_within : ℕ → ℕ → ℕ → ℕ → Evaluation → Bool
 is_within start end first last x = nat_le start x.position && nat_lt x.position end && nat_le first x.point && nat_lt x.point last
 
+-- 1 where it is so, and else 0
 abbrev pub one_if : Bool → ℕ
 one_if true = 1
 one_if false = 0

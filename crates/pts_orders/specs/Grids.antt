@@ -48,6 +48,7 @@ pub record Chunk : Type 0 where
   pub start : ℕ
   pub height : ℕ
 
+-- a position is one of the chunk
 abbrev pub is_in : Chunk → ℕ → Bool
 is_in chunk position = nat_le chunk.start position && nat_lt position (chunk.start + chunk.height)
 
