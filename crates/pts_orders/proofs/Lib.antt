@@ -1,0 +1,13 @@
+pub mod Apart
+pub mod Chunks
+pub mod Clear
+pub mod Confluence
+pub mod Counting
+pub mod IndexOrder
+pub mod Lists
+pub mod PartEnds
+pub mod Places
+pub mod SideBySide
+pub mod Strips
+pub mod Turns
+pub mod Windows

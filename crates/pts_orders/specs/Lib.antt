@@ -1,0 +1,10 @@
+pub mod Conflicts
+pub mod Effects
+pub mod Endings
+pub mod Evaluations
+pub mod Extensions
+pub mod Grids
+pub mod Laws
+pub mod Parts
+pub mod Runs
+pub mod Windows
