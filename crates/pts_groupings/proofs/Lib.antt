@@ -1,0 +1,4 @@
+pub mod Trees
+pub mod Chunks
+pub mod Throws
+pub mod Orders

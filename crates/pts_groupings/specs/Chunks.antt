@@ -1,7 +1,7 @@
 -- Positions cut into chunks, and chunks shared out to groups.
 use Rattle.std.specs.Prelude.{◌≡◌, ℕ, zero, suc, ◌+◌, ◌*◌, ◌≤◌, List, [], ◌∷◌, All, cond, eqb, ltb, length, take, drop}
 use Rattle.std.specs.Int.{div_ceil}
-use Rattle.std.specs.List.{flat_map}
+use Rattle.std.specs.List.{flat_map, range_with_len}
 use Rattle.std.specs.List.Sorted.{IsStrictlyIncreasing}
 use Rattle.pts_types.specs.declared.operation.Policy.{Policy}
 use Rattle.pts_types.specs.declared.operation.Policy.TheVariants.{Par, ParUnseq}
@@ -13,11 +13,6 @@ chunk_count n size = div_ceil n size
 -- what a list has at the positions of chunk c; the last chunk may be shorter
 abbrev pub chunk : {A : Type 0} → ℕ → List A → ℕ → List A
 chunk size items c = take size (drop (c * size) items)
-
--- so many numbers in a row, from this one on
-abbrev pub count_from : ℕ → ℕ → List ℕ
-count_from first zero = []
-count_from first (suc count) = first ∷ count_from (first + 1) count
 
 -- how often x stands in the list
 abbrev pub times : ℕ → List ℕ → ℕ
@@ -38,6 +33,6 @@ sharing ParUnseq workers = workers
 sharing policy workers = 1
 
 -- the grouping of one worker: one group of all chunks in order, or none where there are no chunks
-abbrev pub in_order : ℕ → List (List ℕ)
-in_order zero = []
-in_order (suc chunks) = count_from 0 (suc chunks) ∷ []
+abbrev pub single_group : ℕ → List (List ℕ)
+single_group zero = []
+single_group (suc chunks) = range_with_len 0 (suc chunks) ∷ []

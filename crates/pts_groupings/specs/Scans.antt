@@ -1,11 +1,11 @@
 -- The places of a scan. The four scans differ in two things: whether a place takes in its own item, and whether the items are transformed.
 use Rattle.std.specs.Prelude.{◌≡◌, ℕ, ◌+◌, ◌/◌, ◌%◌, ◌<◌, ◌++◌, Option, Some, None, List, map, length, take}
-use Rattle.std.specs.List.{cons_option}
+use Rattle.std.specs.List.{cons_option, range_with_len}
 use Rattle.std.specs.Option.{option_map, MatchOption}
 use Rattle.pts_types.specs.declared.operation.Policy.{Policy}
 use Rattle.pts_types.specs.declared.operation.Policy.TheVariants.{Seq}
 use Rattle.pts_groupings.specs.Brackets.{NoncommutativeSum}
-use Rattle.pts_groupings.specs.Chunks.{chunk, count_from}
+use Rattle.pts_groupings.specs.Chunks.{chunk}
 use Rattle.pts_groupings.specs.Sums.{folded, all_given}
 
 pub data Scan : Type 0 where
@@ -29,11 +29,11 @@ abbrev pub place : {V : Type 0} → Policy → Scan → ℕ → (V → V → Opt
 place Seq scan size op init items p = folded op (cons_option (option_map Some init) (take (reach scan p) items))
 place policy scan size op init items p =
     folded op (cons_option (option_map Some init)
-    (map (λ c. folded op (chunk size items c)) (count_from 0 (p / size)) ++ take (reach scan (p % size)) (chunk size items (p / size))))
+    (map (λ c. folded op (chunk size items c)) (range_with_len 0 (p / size)) ++ take (reach scan (p % size)) (chunk size items (p / size))))
 
 -- the places of a scan ([inclusive.scan], [exclusive.scan]), or None where one of them throws; the last item of an exclusive scan is in no place
 abbrev pub places_of : {V : Type 0} → Policy → Scan → ℕ → (V → V → Option V) → Option V → List (Option V) → Option (List V)
-places_of policy scan size op init items = all_given (map (place policy scan size op init items) (count_from 0 (length items)))
+places_of policy scan size op init items = all_given (map (place policy scan size op init items) (range_with_len 0 (length items)))
 
 -- the sum that the standard names for the place at p: of init and the items up to p's, or before p's where the scan is exclusive
 abbrev pub IsPlaceSum : {V : Type 0} → Scan → (V → V → Option V) → Option V → List (Option V) → ℕ → Option V → Type 0
