@@ -1,6 +1,6 @@
 -- Throws among the items of folds.
 use Rattle.std.proofs.Common.{◌≡◌, ℕ, zero, suc, ◌<◌, Option, Some, None, List, [], ◌∷◌, ◌++◌, length, map, refl, sym, ap, ◌∙◌, ⊎_elim, arith}
-use Rattle.std.specs.List.{flat_map, fold, Contains, slice_index_or}
+use Rattle.std.specs.List.{flat_map, fold, Contains, slice_get, slice_index_or}
 use Rattle.std.specs.Option.{option_map}
 use Rattle.std.proofs.lemmas.List.Elements.{Contains-append_cases, Contains-append_right}
 use Rattle.pts_groupings.specs.Brackets.{combined}
@@ -51,11 +51,26 @@ folded_throws_at op (x ∷ xs) (suc k) l e = fold_throws_at op xs k x (omega (ar
 pub folded_throws : {V : Type 0} (op : V → V → Option V) (xs : List (Option V)) → Contains xs None → folded op xs ≡ None
 folded_throws op xs h = folded_throws_at op xs h.0 h.1 h.2
 
--- a fold of parts throws where a part has a throw
-pub a_part_throws : {A V : Type 0} (op : V → V → Option V) (f : A → List (Option V)) (parts : List A) (s : Option V)
-    → Contains (flat_map f parts) None → fold (combined op) s (map (λ part. folded op (f part)) parts) ≡ None
-a_part_throws op f [] s h = absurd (let l = h.1 in omega (arith, l))
-a_part_throws op f (part ∷ parts) s h =
-    ⊎_elim (λ here. throws_from op s (folded op (f part)) (map (λ x. folded op (f x)) parts) (folded_throws op (f part) here))
-    (λ later. a_part_throws op f parts (combined op s (folded op (f part))) later)
+-- where a part has a throw, the fold of that part is one
+pub part_throws : {A V : Type 0} (op : V → V → Option V) (f : A → List (Option V)) (parts : List A)
+    → Contains (flat_map f parts) None → Contains (map (λ part. folded op (f part)) parts) None
+part_throws op f [] h = absurd (let l = h.1 in omega (arith, l))
+part_throws op f (part ∷ parts) h =
+    ⊎_elim (λ here. (0, (omega arith), folded_throws op (f part) here))
+    (λ later. Contains-append_right (folded op (f part) ∷ []) (map (λ x. folded op (f x)) parts) None (part_throws op f parts later))
     (Contains-append_cases (f part) (flat_map f parts) None h)
+
+given_none_at : {V : Type 0} (xs : List (Option V)) (k : ℕ) → k < length xs → slice_index_or xs k None ≡ None → all_given xs ≡ None
+given_none_at [] k l e = absurd (omega (arith, l))
+given_none_at (None ∷ xs) k l e = refl
+given_none_at (Some v ∷ xs) zero l e = absurd (cc)
+given_none_at (Some v ∷ xs) (suc k) l e = ap (option_map (λ vs. v ∷ vs)) (given_none_at xs k (omega (arith, l)) e)
+
+pub given_none : {V : Type 0} (xs : List (Option V)) → Contains xs None → all_given xs ≡ None
+given_none xs h = given_none_at xs h.0 h.1 h.2
+
+-- the values of items, by place
+pub value_at : {V : Type 0} (vs : List V) (k : ℕ) → slice_get vs k ≡ slice_index_or (map Some vs) k None
+value_at [] k = refl
+value_at (v ∷ vs) zero = refl
+value_at (v ∷ vs) (suc k) = value_at vs k

@@ -1,10 +1,54 @@
--- What the laws of this crate say, of values and the operations on them.
-use Rattle.std.specs.Prelude.{Option}
+-- What the laws of this crate say. An operation takes two values and gives one, or throws.
+use Rattle.std.specs.Prelude.{◌≡◌, ℕ, ◌<◌, ◌≤◌, Option, Some, None, List, ◌∷◌, length, take}
+use Rattle.std.specs.List.{slice_get}
 use Rattle.std.specs.Result.{result_ok}
 use Rattle.pts_types.specs.Arithmetic.{value_under}
+use Rattle.pts_types.specs.declared.operation.Policy.{Policy}
 use Rattle.pts_types.specs.declared.operation.ScalarOp.{ScalarOp}
 use Rattle.pts_types.specs.declared.value.Value.{Value}
+use Rattle.pts_groupings.specs.Brackets.{NoncommutativeSum}
+use Rattle.pts_groupings.specs.Chunks.{chunk_count, IsGrouping}
+use Rattle.pts_groupings.specs.Sums.{all_given, sum_of, IsSum}
+use Rattle.pts_groupings.specs.Scans.{Scan, reach, HasStart, places_of, IsPlaceSum, HasThrow}
+use Rattle.pts_groupings.specs.Reductions.{contributed, accumulator, accumulators, reduction_of, IsCombined}
 
--- an operation on values, of which None is a throw
+-- an operation of the scripts, where None stands for what it throws
 abbrev pub given : ScalarOp → Value → Value → Option Value
 given op x y = result_ok (value_under op x y)
+
+-- the sum of any grouping lies in the generalized sum of init and the items, and throws where an item does
+abbrev pub SumsAreGeneralized : Type 0
+SumsAreGeneralized =
+    (op : Value → Value → Option Value) (policy : Policy) (workers size : ℕ) (groups : List (List ℕ)) (init : Value) (items : List (Option Value))
+    → 0 < size → IsGrouping workers (chunk_count (length items) size) groups → IsSum op init items (sum_of policy size groups op init items)
+
+-- a scan that does not throw writes as many places as there are items, each of them the sum that the standard names
+abbrev pub WrittenPlacesAreSums : Type 0
+WrittenPlacesAreSums =
+    (op : Value → Value → Option Value) (policy : Policy) (scan : Scan) (size : ℕ) (init : Option Value) (items : List (Option Value)) (written : List Value)
+    → 0 < size → HasStart scan init → places_of policy scan size op init items ≡ Some written
+    → (length written ≡ length items) × ((p : ℕ) → p < length items → IsPlaceSum scan op init items p (slice_get written p))
+
+-- where a scan throws, a throw lies in the sum of one of its places
+abbrev pub ThrowsAreSums : Type 0
+ThrowsAreSums =
+    (op : Value → Value → Option Value) (policy : Policy) (scan : Scan) (size : ℕ) (init : Option Value) (items : List (Option Value))
+    → 0 < size → HasStart scan init → places_of policy scan size op init items ≡ None → HasThrow scan op init items
+
+-- where an item that belongs to a place throws, so does the scan
+abbrev pub ItemsThrow : Type 0
+ItemsThrow =
+    (op : Value → Value → Option Value) (policy : Policy) (scan : Scan) (size : ℕ) (init : Option Value) (items : List (Option Value)) (p : ℕ)
+    → 0 < size → HasStart scan init → p < length items → all_given (take (reach scan p) items) ≡ None → places_of policy scan size op init items ≡ None
+
+-- a reduction over groups combines their accumulators in their order, and throws where one of them does
+abbrev pub ReductionsCombine : Type 0
+ReductionsCombine =
+    (size : ℕ) (groups : List (List ℕ)) (op : Value → Value → Option Value) (live identity : Value) (contributions : List (List Value))
+    → 1 ≤ length groups → IsCombined op (accumulators size op contributions live identity groups) (reduction_of size groups op live identity contributions)
+
+-- an accumulator is a sum of what it began with and what its group contributes, in their order
+abbrev pub AccumulatorsAreSums : Type 0
+AccumulatorsAreSums =
+    (size : ℕ) (op : Value → Value → Option Value) (contributions : List (List Value)) (start : Value) (group : List ℕ)
+    → NoncommutativeSum op (start ∷ contributed size contributions group) (accumulator size op contributions start group)

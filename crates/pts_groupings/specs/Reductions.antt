@@ -1,9 +1,10 @@
 -- The reduction of a loop ([parallel.alg.reductions]): accumulators that groups of positions contribute to.
-use Rattle.std.specs.Prelude.{ℕ, Option, Some, List, [], ◌∷◌, map}
+use Rattle.std.specs.Prelude.{◌≡◌, ℕ, Option, Some, None, List, [], ◌∷◌, map}
 use Rattle.std.specs.List.{flat_map, fold}
-use Rattle.pts_groupings.specs.Brackets.{combined}
+use Rattle.std.specs.Option.{MatchOption}
+use Rattle.pts_groupings.specs.Brackets.{combined, NoncommutativeSum}
 use Rattle.pts_groupings.specs.Chunks.{chunk}
-use Rattle.pts_groupings.specs.Sums.{folded}
+use Rattle.pts_groupings.specs.Sums.{folded, all_given}
 
 -- what a group contributes, chunk by chunk, position by position, each position's in the order of its list
 abbrev pub contributed : {V : Type 0} → ℕ → List (List V) → List ℕ → List V
@@ -24,3 +25,7 @@ abbrev pub reduction_of : {V : Type 0} → ℕ → List (List ℕ) → (V → V 
 reduction_of size [] op live identity contributions = Some live
 reduction_of size (first ∷ others) op live identity contributions =
     folded op (accumulators size op contributions live identity (first ∷ others))
+
+-- the outcomes combined in their order by some brackets, or a throw where one of them is one
+abbrev pub IsCombined : {V : Type 0} → (V → V → Option V) → List (Option V) → Option V → Type 0
+IsCombined op outcomes result = MatchOption (all_given outcomes) (result ≡ None) (λ values. NoncommutativeSum op values result)

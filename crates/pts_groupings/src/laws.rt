@@ -1,0 +1,23 @@
+//! Laws of sums, scans and reductions, whatever the policy, the chunk length and the grouping.
+
+ghost use Rattle.pts_groupings.specs.Laws as laws;
+
+/// The sum of any grouping is a generalized sum of init and the items, and it throws where a transform throws.
+pub fn sums_of_groupings_are_generalized()
+    ensures { laws.SumsAreGeneralized }
+{}
+
+/// Each place of a scan is the sum that the standard names for it, and a scan throws only where such a sum may, and wherever
+/// a transform does at an item that belongs to a place.
+pub fn places_are_sums_of_their_items()
+    ensures written { laws.WrittenPlacesAreSums }
+    ensures thrown { laws.ThrowsAreSums }
+    ensures transforms { laws.ItemsThrow }
+{}
+
+/// A loop's reduction combines the accumulators of its groups in their order, each of them a sum of what it began with and
+/// what its group contributes.
+pub fn reductions_combine_their_accumulators()
+    ensures combines { laws.ReductionsCombine }
+    ensures accumulators { laws.AccumulatorsAreSums }
+{}
