@@ -6,3 +6,4 @@ pub mod Sums
 pub mod Reductions
 pub mod Places
 pub mod Scans
+pub mod Totals

@@ -19,7 +19,7 @@ use Rattle.pts_groupings.proofs.Throws.{Items, Values, Throws, items_of, folded_
 
 -- ---- lists of numbers in a row
 
-map-range_same : {B : Type 0} (f g : ℕ → B) (a n : ℕ) → ((c : ℕ) → c < a + n → f c ≡ g c) → map f (range_with_len a n) ≡ map g (range_with_len a n)
+pub map-range_same : {B : Type 0} (f g : ℕ → B) (a n : ℕ) → ((c : ℕ) → c < a + n → f c ≡ g c) → map f (range_with_len a n) ≡ map g (range_with_len a n)
 map-range_same f g a zero same = refl
 map-range_same f g a (suc n) same =
     let e = same a (omega arith) in
