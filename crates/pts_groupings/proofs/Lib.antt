@@ -7,3 +7,4 @@ pub mod Reductions
 pub mod Places
 pub mod Scans
 pub mod Totals
+pub mod Free
