@@ -1,5 +1,5 @@
 -- An operation that may be grouped and turned freely has totals: the left folds.
-use Rattle.std.proofs.Common.{◌≡◌, ℕ, zero, suc, ◌<◌, ◌≤◌, Option, Some, None, List, [], ◌∷◌, ◌++◌, length, map, get_or, set, refl, sym, ap, subst, ◌∙◌, arith}
+use Rattle.std.proofs.Common.{◌≡◌, ℕ, zero, suc, ◌<◌, ◌≤◌, Option, Some, None, List, [], ◌∷◌, ◌++◌, length, map, get_or, set, refl, sym, ap, ◌∙◌, arith}
 use Rattle.std.specs.List.{fold, All, swap}
 use Rattle.std.specs.Option.{IfSome}
 use Rattle.std.specs.List.Sorted.{IsPermutation}

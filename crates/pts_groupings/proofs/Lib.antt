@@ -8,3 +8,5 @@ pub mod Places
 pub mod Scans
 pub mod Totals
 pub mod Free
+pub mod Accumulators
+pub mod Unsigned

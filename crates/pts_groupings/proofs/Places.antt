@@ -11,7 +11,7 @@ use Rattle.pts_types.specs.declared.operation.Policy.{Policy}
 use Rattle.pts_types.specs.declared.operation.Policy.TheVariants.{Seq}
 use Rattle.pts_groupings.specs.Brackets.{Bracketing, Leaf, leaves, outcome_of, NoncommutativeSum}
 use Rattle.pts_groupings.specs.Chunks.{chunk}
-use Rattle.pts_groupings.specs.Sums.{folded, all_given}
+use Rattle.pts_groupings.specs.Sums.{folded}
 use Rattle.pts_groupings.specs.Scans.{Scan, Inclusive, Exclusive, reach, HasStart, place, IsPlaceSum}
 use Rattle.pts_groupings.proofs.Trees.{comb_sum, fold_sum, leaves-values, outcomes-values, part_trees, sum_as}
 use Rattle.pts_groupings.proofs.Chunks.{chunk-map, chunks-joined}

@@ -1,9 +1,9 @@
 -- A loop's reduction combines its accumulators.
-use Rattle.std.proofs.Common.{◌≡◌, ℕ, ◌≤◌, Option, Some, None, List, [], ◌∷◌, length, map, refl, sym, ap, subst, ◌∙◌, arith}
+use Rattle.std.proofs.Common.{◌≡◌, ℕ, ◌≤◌, Option, Some, None, List, [], ◌∷◌, length, sym, ap, subst, ◌∙◌, arith}
 use Rattle.std.specs.Option.{MatchOption}
 use Rattle.std.proofs.lemmas.List.{length-map}
 use Rattle.pts_groupings.specs.Brackets.{NoncommutativeSum}
-use Rattle.pts_groupings.specs.Sums.{folded, all_given}
+use Rattle.pts_groupings.specs.Sums.{folded}
 use Rattle.pts_groupings.specs.Reductions.{contributed, accumulator, accumulators, reduction_of, IsCombined}
 use Rattle.pts_groupings.proofs.Trees.{list_sum}
 use Rattle.pts_groupings.proofs.Throws.{Items, Values, Throws, items_of, folded_throws}

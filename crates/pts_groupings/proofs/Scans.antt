@@ -1,5 +1,5 @@
 -- What a scan writes, and when it throws.
-use Rattle.std.proofs.Common.{◌≡◌, ℕ, ◌<◌, Option, Some, None, List, length, map, take, get_or, refl, sym, ap, subst, ◌∙◌, arith}
+use Rattle.std.proofs.Common.{◌≡◌, ℕ, ◌<◌, Option, Some, None, List, length, map, take, get_or, sym, ap, subst, ◌∙◌, arith}
 use Rattle.std.specs.List.{range_with_len, Contains, slice_get}
 use Rattle.std.specs.Option.{unwrap_or}
 use Rattle.std.proofs.lemmas.List.{length-map}
@@ -16,7 +16,7 @@ use Rattle.pts_groupings.proofs.Places.{place_is_sum}
 values_at : {V : Type 0} (f : ℕ → Option V) (n : ℕ) (ws : List V) (p : ℕ) → p < n → map f (range_with_len 0 n) ≡ map Some ws → slice_get ws p ≡ f p
 values_at f n ws p l e = value_at ws p ∙ ap (λ xs. get_or xs p None) (sym e) ∙ get_or-map-range_with_len f 0 n p p None l (omega arith)
 
-given_values : {V : Type 0} (items : List (Option V)) (ws : List V) → all_given items ≡ Some ws → Items items → items ≡ map Some ws
+pub given_values : {V : Type 0} (items : List (Option V)) (ws : List V) → all_given items ≡ Some ws → Items items → items ≡ map Some ws
 given_values items ws e (Values vs same given) = same ∙ ap (map Some) (ap (λ o. unwrap_or o ws) (sym given ∙ e))
 given_values items ws e (Throws h given) = absurd (let none = given in cc)
 

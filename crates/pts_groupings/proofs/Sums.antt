@@ -8,7 +8,7 @@ use Rattle.pts_types.specs.declared.operation.Policy.{Policy}
 use Rattle.pts_types.specs.declared.operation.Policy.TheVariants.{Seq}
 use Rattle.pts_groupings.specs.Brackets.{combined, Leaf, GeneralizedSum}
 use Rattle.pts_groupings.specs.Chunks.{chunk, chunk_count, IsGrouping}
-use Rattle.pts_groupings.specs.Sums.{folded, all_given, sum_of, IsSum}
+use Rattle.pts_groupings.specs.Sums.{folded, sum_of, IsSum}
 use Rattle.pts_groupings.proofs.Trees.{comb_sum, list_sum, part_trees, sum_as}
 use Rattle.pts_groupings.proofs.Chunks.{chunks-map}
 use Rattle.pts_groupings.proofs.Throws.{Items, Values, Throws, items_of, fold_throws, part_throws}

@@ -1,12 +1,16 @@
 -- What the laws of this crate say. An operation takes two values and gives one, or throws.
-use Rattle.std.specs.Prelude.{◌≡◌, ℕ, ◌<◌, ◌≤◌, Option, Some, None, List, ◌∷◌, length, take}
-use Rattle.std.specs.List.{slice_get}
+use Rattle.std.specs.Prelude.{◌≡◌, ℕ, ◌<◌, ◌≤◌, Option, Some, None, List, ◌∷◌, length, map, take, All}
+use Rattle.std.specs.List.{flat_map, fold, slice_get}
+use Rattle.std.specs.Option.{IfSome}
 use Rattle.std.specs.Result.{result_ok}
-use Rattle.pts_types.specs.Arithmetic.{value_under}
+use Rattle.pts_types.specs.Arithmetic.{value_under, identity_of, IsReduction, IsValueOf}
+use Rattle.pts_types.specs.Laws.{IsU64}
+use Rattle.pts_types.specs.declared.value.Kind.TheVariants as kinds
+use Rattle.pts_types.specs.declared.operation.Policy.TheVariants.{Seq}
 use Rattle.pts_types.specs.declared.operation.Policy.{Policy}
 use Rattle.pts_types.specs.declared.operation.ScalarOp.{ScalarOp}
 use Rattle.pts_types.specs.declared.value.Value.{Value}
-use Rattle.pts_groupings.specs.Brackets.{NoncommutativeSum}
+use Rattle.pts_groupings.specs.Brackets.{combined, NoncommutativeSum}
 use Rattle.pts_groupings.specs.Chunks.{chunk_count, IsGrouping}
 use Rattle.pts_groupings.specs.Sums.{all_given, sum_of, IsSum}
 use Rattle.pts_groupings.specs.Scans.{Scan, reach, HasStart, places_of, IsPlaceSum, HasThrow}
@@ -52,3 +56,27 @@ abbrev pub AccumulatorsAreSums : Type 0
 AccumulatorsAreSums =
     (size : ℕ) (op : Value → Value → Option Value) (contributions : List (List Value)) (start : Value) (group : List ℕ)
     → NoncommutativeSum op (start ∷ contributed size contributions group) (accumulator size op contributions start group)
+
+-- ---- the seven operations on u64: the left fold alone
+
+-- on u64 the sum of any grouping, under any policy, is the left fold of init and the items
+abbrev pub SumsAreLeftFolds : Type 0
+SumsAreLeftFolds =
+    (op : ScalarOp) (policy : Policy) (workers size : ℕ) (groups : List (List ℕ)) (init : Value) (items : List (Option Value))
+    → IsReduction op → 0 < size → IsGrouping workers (chunk_count (length items) size) groups → IsU64 init → All (λ item. IfSome item IsU64) items
+    → sum_of policy size groups (given op) init items ≡ fold (combined (given op)) (Some init) items
+
+-- on u64 the places of a scan are those of the left folds, whatever the policy and the chunk length
+abbrev pub PlacesAreLeftFolds : Type 0
+PlacesAreLeftFolds =
+    (op : ScalarOp) (policy : Policy) (scan : Scan) (size : ℕ) (init : Option Value) (items : List (Option Value))
+    → IsReduction op → 0 < size → HasStart scan init → IfSome init IsU64 → All (λ item. IfSome item IsU64) items
+    → places_of policy scan size (given op) init items ≡ places_of Seq scan size (given op) init items
+
+-- on u64 a reduction with the operation's own identity is, over any grouping, the left fold of the live value and all contributions
+abbrev pub ReductionsAreLeftFolds : Type 0
+ReductionsAreLeftFolds =
+    (op : ScalarOp) (workers size : ℕ) (groups : List (List ℕ)) (live : Value) (contributions : List (List Value))
+    → IsReduction op → 0 < size → IsGrouping workers (chunk_count (length contributions) size) groups → IsValueOf kinds.U64 live → All (All IsU64) contributions
+    → reduction_of size groups (given op) live (identity_of op live) contributions
+    ≡ fold (combined (given op)) (Some live) (map Some (flat_map (λ own. own) contributions))

@@ -21,3 +21,11 @@ pub fn reductions_combine_their_accumulators()
     ensures combines { laws.ReductionsCombine }
     ensures accumulators { laws.AccumulatorsAreSums }
 {}
+
+/// On `u64` each of the seven operations gives the left fold, whatever the policy, the chunk length and the grouping, in sums, in
+/// scans and in reductions of loops.
+pub fn unsigned_sums_are_left_folds()
+    ensures sums { laws.SumsAreLeftFolds }
+    ensures places { laws.PlacesAreLeftFolds }
+    ensures reductions { laws.ReductionsAreLeftFolds }
+{}
