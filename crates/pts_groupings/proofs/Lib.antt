@@ -10,3 +10,4 @@ pub mod Totals
 pub mod Free
 pub mod Accumulators
 pub mod Unsigned
+pub mod Single

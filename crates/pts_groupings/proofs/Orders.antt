@@ -17,7 +17,7 @@ pub times-append : (x : ℕ) (xs ys : List ℕ) → times x (xs ++ ys) ≡ times
 times-append x [] ys = omega arith
 times-append x (y ∷ xs) ys = let r = times-append x xs ys in omega (arith, r)
 
-times-range : (x a n : ℕ) → times x (range_with_len a n) ≡ cond (ltb x a) 0 (cond (ltb x (a + n)) 1 0)
+pub times-range : (x a n : ℕ) → times x (range_with_len a n) ≡ cond (ltb x a) 0 (cond (ltb x (a + n)) 1 0)
 times-range x a zero = grind (arith, nat_tests)
 times-range x a (suc n) = let r = times-range x (a + 1) n in grind (arith, nat_tests)
 

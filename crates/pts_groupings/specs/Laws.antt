@@ -11,7 +11,7 @@ use Rattle.pts_types.specs.declared.operation.Policy.{Policy}
 use Rattle.pts_types.specs.declared.operation.ScalarOp.{ScalarOp}
 use Rattle.pts_types.specs.declared.value.Value.{Value}
 use Rattle.pts_groupings.specs.Brackets.{combined, NoncommutativeSum}
-use Rattle.pts_groupings.specs.Chunks.{chunk_count, IsGrouping}
+use Rattle.pts_groupings.specs.Chunks.{chunk_count, sharing, single_group, IsGrouping}
 use Rattle.pts_groupings.specs.Sums.{all_given, sum_of, IsSum}
 use Rattle.pts_groupings.specs.Scans.{Scan, reach, HasStart, places_of, IsPlaceSum, HasThrow}
 use Rattle.pts_groupings.specs.Reductions.{contributed, accumulator, accumulators, reduction_of, IsCombined}
@@ -19,6 +19,15 @@ use Rattle.pts_groupings.specs.Reductions.{contributed, accumulator, accumulator
 -- an operation of the scripts, where None stands for what it throws
 abbrev pub given : ScalarOp → Value → Value → Option Value
 given op x y = result_ok (value_under op x y)
+
+-- where one worker has all chunks, by its policy or by itself, a grouping is the one group of all chunks in order
+abbrev pub OneWorkerHasOneGrouping : Type 0
+OneWorkerHasOneGrouping =
+    (policy : Policy) (workers chunks : ℕ) (groups : List (List ℕ)) → sharing policy workers ≡ 1 → IsGrouping (sharing policy workers) chunks groups → groups ≡ single_group chunks
+
+-- that is a grouping, among however many workers
+abbrev pub OneGroupIsAGrouping : Type 0
+OneGroupIsAGrouping = (workers chunks : ℕ) → 1 ≤ workers → IsGrouping workers chunks (single_group chunks)
 
 -- the sum of any grouping lies in the generalized sum of init and the items, and throws where an item does
 abbrev pub SumsAreGeneralized : Type 0

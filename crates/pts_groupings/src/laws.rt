@@ -2,6 +2,12 @@
 
 ghost use Rattle.pts_groupings.specs.Laws as laws;
 
+/// One worker has one grouping, the one group of all chunks in order, which is one among any workers.
+pub fn one_worker_has_one_grouping()
+    ensures alone { laws.OneWorkerHasOneGrouping }
+    ensures among_others { laws.OneGroupIsAGrouping }
+{}
+
 /// The sum of any grouping is a generalized sum of init and the items, and it throws where a transform throws.
 pub fn sums_of_groupings_are_generalized()
     ensures { laws.SumsAreGeneralized }

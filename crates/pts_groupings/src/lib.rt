@@ -10,6 +10,7 @@
 mod laws;
 
 pub use laws::{
-    places_are_sums_of_their_items, reductions_combine_their_accumulators,
-    sums_of_groupings_are_generalized, unsigned_sums_are_left_folds,
+    one_worker_has_one_grouping, places_are_sums_of_their_items,
+    reductions_combine_their_accumulators, sums_of_groupings_are_generalized,
+    unsigned_sums_are_left_folds,
 };
