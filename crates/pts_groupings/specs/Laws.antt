@@ -1,5 +1,5 @@
 -- What the laws of this crate say. An operation takes two values and gives one, or throws.
-use Rattle.std.specs.Prelude.{◌≡◌, ℕ, ◌<◌, ◌≤◌, Option, Some, None, List, ◌∷◌, length, map, take, All}
+use Rattle.std.specs.Prelude.{◌≡◌, ℕ, ◌<◌, ◌≤◌, Option, Some, None, List, ◌∷◌, ◌++◌, length, map, take, All}
 use Rattle.std.specs.List.{flat_map, fold, slice_get}
 use Rattle.std.specs.Option.{IfSome}
 use Rattle.std.specs.Result.{result_ok}
@@ -65,6 +65,13 @@ abbrev pub AccumulatorsAreSums : Type 0
 AccumulatorsAreSums =
     (size : ℕ) (op : Value → Value → Option Value) (contributions : List (List Value)) (start : Value) (group : List ℕ)
     → NoncommutativeSum op (start ∷ contributed size contributions group) (accumulator size op contributions start group)
+
+-- a reduction is a sum of the live value and what the first group contributes, and for each other group of the identity and what it contributes
+abbrev pub ReductionsAreSums : Type 0
+ReductionsAreSums =
+    (size : ℕ) (first : List ℕ) (others : List (List ℕ)) (op : Value → Value → Option Value) (live identity : Value) (contributions : List (List Value))
+    → NoncommutativeSum op (live ∷ (contributed size contributions first ++ flat_map (λ group. identity ∷ contributed size contributions group) others))
+    (reduction_of size (first ∷ others) op live identity contributions)
 
 -- ---- the seven operations on u64: the left fold alone
 

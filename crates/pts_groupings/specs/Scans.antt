@@ -1,4 +1,4 @@
--- The places of a scan. The four scans differ in two things: whether a place takes in its own item, and whether the items are transformed.
+-- The places of a scan. With or without a transform is the same here, since items stand behind it.
 use Rattle.std.specs.Prelude.{◌≡◌, ℕ, ◌+◌, ◌/◌, ◌%◌, ◌<◌, ◌++◌, Option, Some, None, List, map, length, take}
 use Rattle.std.specs.List.{cons_option, range_with_len}
 use Rattle.std.specs.Option.{option_map, MatchOption}
@@ -8,6 +8,7 @@ use Rattle.pts_groupings.specs.Brackets.{NoncommutativeSum}
 use Rattle.pts_groupings.specs.Chunks.{chunk}
 use Rattle.pts_groupings.specs.Sums.{folded, all_given}
 
+-- whether a place takes in its own item ([inclusive.scan]) or ends before it ([exclusive.scan])
 pub data Scan : Type 0 where
   Inclusive : Scan
   Exclusive : Scan

@@ -22,10 +22,11 @@ pub fn places_are_sums_of_their_items()
 {}
 
 /// A loop's reduction combines the accumulators of its groups in their order, each of them a sum of what it began with and
-/// what its group contributes.
+/// what its group contributes: so the whole is a sum of the live value, an identity for each further group, and all contributions.
 pub fn reductions_combine_their_accumulators()
     ensures combines { laws.ReductionsCombine }
     ensures accumulators { laws.AccumulatorsAreSums }
+    ensures whole { laws.ReductionsAreSums }
 {}
 
 /// On `u64` each of the seven operations gives the left fold, whatever the policy, the chunk length and the grouping, in sums, in
