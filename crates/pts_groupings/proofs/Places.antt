@@ -11,8 +11,8 @@ use Rattle.pts_types.specs.declared.operation.Policy.{Policy}
 use Rattle.pts_types.specs.declared.operation.Policy.TheVariants.{Seq}
 use Rattle.pts_groupings.specs.Brackets.{Bracketing, Leaf, leaves, outcome_of, NoncommutativeSum}
 use Rattle.pts_groupings.specs.Chunks.{chunk}
-use Rattle.pts_groupings.specs.Sums.{folded}
-use Rattle.pts_groupings.specs.Scans.{Scan, Inclusive, Exclusive, reach, HasStart, place, IsPlaceSum}
+use Rattle.pts_groupings.specs.Sums.{folded, all_given}
+use Rattle.pts_groupings.specs.Scans.{Scan, Inclusive, Exclusive, reach, belonging, HasStart, place, IsPlaceSum}
 use Rattle.pts_groupings.proofs.Trees.{comb_sum, fold_sum, leaves-values, outcomes-values, part_trees, sum_as}
 use Rattle.pts_groupings.proofs.Chunks.{chunk-map, chunks-joined}
 use Rattle.pts_groupings.proofs.Throws.{Items, Values, Throws, items_of, folded_throws, part_throws}
@@ -185,7 +185,8 @@ place_throws op policy scan size init items p some h =
 
 either_place : {V : Type 0} (op : V → V → Option V) (policy : Policy) (scan : Scan) (size : ℕ) (init : Option V) (items : List (Option V)) (p : ℕ)
     → 0 < size → HasStart scan init → p < length items → Items (take (reach scan p) items)
-    → IsPlaceSum scan op init items p (place policy scan size op init items p)
+    → MatchOption (all_given (take (reach scan p) items)) (place policy scan size op init items p ≡ None)
+    (λ values. NoncommutativeSum op (cons_option init values) (place policy scan size op init items p))
 either_place op policy scan size init items p some begun l (Values vs e given) =
     let bounds = reach_bounds scan p in
     let taken = length-take (reach scan p) items in
@@ -197,7 +198,13 @@ either_place op policy scan size init items p some begun l (Throws h given) =
     subst (λ o. MatchOption o (place policy scan size op init items p ≡ None) (λ values. NoncommutativeSum op (cons_option init values) (place policy scan size op init items p)))
     (sym given) (place_throws op policy scan size init items p some h)
 
+belongs : {A : Type 0} (scan : Scan) (items : List A) (p : ℕ) → belonging scan items p ≡ take (reach scan p) items
+belongs Inclusive items p = refl
+belongs Exclusive items p = refl
+
 -- each place is a sum of init and its items, in their order, and throws where one of them does
 pub place_is_sum : {V : Type 0} (op : V → V → Option V) (policy : Policy) (scan : Scan) (size : ℕ) (init : Option V) (items : List (Option V)) (p : ℕ)
     → 0 < size → HasStart scan init → p < length items → IsPlaceSum scan op init items p (place policy scan size op init items p)
-place_is_sum op policy scan size init items p some begun l = either_place op policy scan size init items p some begun l (items_of (take (reach scan p) items))
+place_is_sum op policy scan size init items p some begun l =
+    subst (λ own. MatchOption (all_given own) (place policy scan size op init items p ≡ None) (λ values. NoncommutativeSum op (cons_option init values) (place policy scan size op init items p)))
+    (sym (belongs scan items p)) (either_place op policy scan size init items p some begun l (items_of (take (reach scan p) items)))

@@ -1,5 +1,5 @@
 -- What a scan writes, and when it throws.
-use Rattle.std.proofs.Common.{◌≡◌, ℕ, ◌<◌, Option, Some, None, List, length, map, take, get_or, sym, ap, subst, ◌∙◌, arith}
+use Rattle.std.proofs.Common.{◌≡◌, ℕ, ◌<◌, Option, Some, None, List, length, map, get_or, sym, ap, subst, ◌∙◌, arith}
 use Rattle.std.specs.List.{range_with_len, Contains, slice_get}
 use Rattle.std.specs.Option.{unwrap_or}
 use Rattle.std.proofs.lemmas.List.{length-map}
@@ -8,7 +8,7 @@ use Rattle.std.proofs.lemmas.Option.{MatchOption-at_none}
 use Rattle.pts_types.specs.declared.operation.Policy.{Policy}
 use Rattle.pts_groupings.specs.Brackets.{NoncommutativeSum}
 use Rattle.pts_groupings.specs.Sums.{all_given}
-use Rattle.pts_groupings.specs.Scans.{Scan, reach, HasStart, place, places_of, IsPlaceSum, HasThrow}
+use Rattle.pts_groupings.specs.Scans.{Scan, belonging, HasStart, place, places_of, IsPlaceSum, HasThrow}
 use Rattle.pts_groupings.proofs.Throws.{Items, Values, Throws, items_of, given_none, value_at}
 use Rattle.pts_groupings.proofs.Places.{place_is_sum}
 
@@ -56,7 +56,7 @@ module _ {V : Type 0} (op : V → V → Option V) (policy : Policy) (scan : Scan
       (found.0, found.1, subst (IsPlaceSum scan op init items found.0) found.2 (place_is_sum op policy scan size init items found.0 some begun found.1))
 
   -- where an item of a place throws, so does the scan
-  pub item_throws : (p : ℕ) → p < length items → all_given (take (reach scan p) items) ≡ None → places_of policy scan size op init items ≡ None
+  pub item_throws : (p : ℕ) → p < length items → all_given (belonging scan items p) ≡ None → places_of policy scan size op init items ≡ None
   item_throws p l e =
       let at = place policy scan size op init items in
       let none : at p ≡ None =

@@ -1,5 +1,5 @@
 -- Operations under which all brackets and all orders of a list give one outcome: its total.
-use Rattle.std.proofs.Common.{◌≡◌, ℕ, ◌<◌, ◌≤◌, Option, Some, None, List, [], ◌∷◌, ◌++◌, length, take, sym, ap, subst, ◌∙◌, arith}
+use Rattle.std.proofs.Common.{◌≡◌, ℕ, ◌<◌, ◌≤◌, Option, Some, None, List, [], ◌∷◌, ◌++◌, length, sym, ap, subst, ◌∙◌, arith}
 use Rattle.std.specs.List.{cons_option}
 use Rattle.std.specs.List.Sorted.{IsPermutation}
 use Rattle.std.proofs.lemmas.List.{length-append}
@@ -9,7 +9,7 @@ use Rattle.pts_types.specs.declared.operation.Policy.TheVariants.{Seq}
 use Rattle.pts_groupings.specs.Brackets.{combined, Bracketing, Leaf, Node, leaves, outcome_of, NoncommutativeSum, GeneralizedSum}
 use Rattle.pts_groupings.specs.Chunks.{chunk_count, IsGrouping}
 use Rattle.pts_groupings.specs.Sums.{all_given, sum_of, IsSum}
-use Rattle.pts_groupings.specs.Scans.{Scan, reach, HasStart, place, places_of, IsPlaceSum}
+use Rattle.pts_groupings.specs.Scans.{Scan, belonging, HasStart, place, places_of, IsPlaceSum}
 use Rattle.pts_groupings.proofs.Sums.{sum_is_generalized}
 use Rattle.pts_groupings.proofs.Places.{place_is_sum, map-range_same}
 use Rattle.pts_groupings.proofs.Throws.{Items, Values, Throws, items_of}
@@ -66,8 +66,8 @@ module _ {V : Type 0} (op : V → V → Option V) (May : List V → Type 0) (tot
       (sum_is_generalized op Seq workers size groups init items some g) (items_of items)
 
   one_place : (scan : Scan) (init : Option V) (items : List (Option V)) (p : ℕ) (a b : Option V)
-      → ((vs : List V) → all_given (take (reach scan p) items) ≡ Some vs → May (cons_option init vs))
-      → IsPlaceSum scan op init items p a → IsPlaceSum scan op init items p b → Items (take (reach scan p) items) → a ≡ b
+      → ((vs : List V) → all_given (belonging scan items p) ≡ Some vs → May (cons_option init vs))
+      → IsPlaceSum scan op init items p a → IsPlaceSum scan op init items p b → Items (belonging scan items p) → a ≡ b
   one_place scan init items p a b may s s' (Values vs e given) =
       noncommutative_total (cons_option init vs) a (MatchOption-at_some (a ≡ None) (λ values. NoncommutativeSum op (cons_option init values) a) vs given s) (may vs given)
       ∙ sym (noncommutative_total (cons_option init vs) b (MatchOption-at_some (b ≡ None) (λ values. NoncommutativeSum op (cons_option init values) b) vs given s') (may vs given))
@@ -77,11 +77,11 @@ module _ {V : Type 0} (op : V → V → Option V) (May : List V → Type 0) (tot
 
   -- the places are those of the left folds, whatever the policy and the chunk length
   pub every_place : (policy : Policy) (scan : Scan) (size : ℕ) (init : Option V) (items : List (Option V)) → 0 < size → HasStart scan init
-      → ((p : ℕ) (vs : List V) → p < length items → all_given (take (reach scan p) items) ≡ Some vs → May (cons_option init vs))
+      → ((p : ℕ) (vs : List V) → p < length items → all_given (belonging scan items p) ≡ Some vs → May (cons_option init vs))
       → places_of policy scan size op init items ≡ places_of Seq scan size op init items
   every_place policy scan size init items some begun may =
       ap all_given (map-range_same (place policy scan size op init items) (place Seq scan size op init items) 0 (length items)
       (λ p b. let l : p < length items = omega (arith, b) in
       one_place scan init items p (place policy scan size op init items p) (place Seq scan size op init items p) (λ vs. may p vs l)
       (place_is_sum op policy scan size init items p some begun l)
-      (place_is_sum op Seq scan size init items p some begun l) (items_of (take (reach scan p) items))))
+      (place_is_sum op Seq scan size init items p some begun l) (items_of (belonging scan items p))))

@@ -1,5 +1,5 @@
 -- The seven operations of reductions are free on u64, and each has a neutral identity there.
-use Rattle.std.proofs.Common.{◌≡◌, ℕ, ◌+◌, ◌*◌, ◌%◌, ◌^◌, ◌<◌, Option, Some, None, List, [], ◌∷◌, map, take, min, max, refl, sym, ap, subst, ◌∙◌, arith}
+use Rattle.std.proofs.Common.{◌≡◌, ℕ, ◌+◌, ◌*◌, ◌%◌, ◌^◌, ◌<◌, Option, Some, None, List, [], ◌∷◌, map, min, max, refl, sym, ap, subst, ◌∙◌, arith}
 use Rattle.std.specs.Prelude.{Result, Ok, Err}
 use Rattle.std.specs.List.{flat_map, cons_option, All}
 use Rattle.std.specs.Option.{IfSome}
@@ -19,7 +19,7 @@ use Rattle.pts_types.specs.declared.value.Value.TheVariants.{U64}
 use Rattle.pts_types.proofs.Grouping.{u64-associative, u64-commutative}
 use Rattle.pts_groupings.specs.Brackets.{combined}
 use Rattle.pts_groupings.specs.Sums.{all_given}
-use Rattle.pts_groupings.specs.Scans.{reach}
+use Rattle.pts_groupings.specs.Scans.{Scan, Inclusive, Exclusive, belonging}
 use Rattle.pts_groupings.specs.Laws.{given, SumsAreLeftFolds, PlacesAreLeftFolds, ReductionsAreLeftFolds}
 use Rattle.pts_groupings.proofs.Accumulators.{every_reduction}
 use Rattle.pts_groupings.proofs.Free.{IsFree, free_totals, left_fold}
@@ -111,6 +111,10 @@ values_in (v ∷ vs) all =
 given_in : (items : List (Option Value)) (vs : List Value) → all_given items ≡ Some vs → All (λ item. IfSome item IsU64) items → All IsU64 vs
 given_in items vs e all = values_in vs (subst (All (λ item. IfSome item IsU64)) (given_values items vs e (items_of items)) all)
 
+own_in : (scan : Scan) (items : List (Option Value)) (p : ℕ) → All (λ item. IfSome item IsU64) items → All (λ item. IfSome item IsU64) (belonging scan items p)
+own_in Inclusive items p all = All-take (λ item. IfSome item IsU64) (p + 1) items all
+own_in Exclusive items p all = All-take (λ item. IfSome item IsU64) p items all
+
 begun_in : (init : Option Value) (vs : List Value) → IfSome init IsU64 → All IsU64 vs → All IsU64 (cons_option init vs)
 begun_in None vs h all = all
 begun_in (Some v) vs h all = All-cons IsU64 v vs h all
@@ -131,7 +135,7 @@ sums_are_left_folds op policy workers size groups init items h some g init_in al
 pub places_are_left_folds : PlacesAreLeftFolds
 places_are_left_folds op policy scan size init items h some begun init_in all =
     every_place (given op) (All IsU64) (left_fold (given op)) (u64_totals op h) policy scan size init items some begun
-    (λ p vs l e. begun_in init vs init_in (given_in (take (reach scan p) items) vs e (All-take (λ item. IfSome item IsU64) (reach scan p) items all)))
+    (λ p vs l e. begun_in init vs init_in (given_in (belonging scan items p) vs e (own_in scan items p all)))
 
 pub reductions_are_left_folds : ReductionsAreLeftFolds
 reductions_are_left_folds op workers size groups live contributions h some g live_in all =

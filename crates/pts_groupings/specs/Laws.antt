@@ -1,5 +1,5 @@
 -- What the laws of this crate say. An operation takes two values and gives one, or throws.
-use Rattle.std.specs.Prelude.{◌≡◌, ℕ, ◌<◌, ◌≤◌, Option, Some, None, List, ◌∷◌, ◌++◌, length, map, take, All}
+use Rattle.std.specs.Prelude.{◌≡◌, ℕ, ◌<◌, ◌≤◌, Option, Some, None, List, ◌∷◌, ◌++◌, length, map, All}
 use Rattle.std.specs.List.{flat_map, fold, slice_get}
 use Rattle.std.specs.Option.{IfSome}
 use Rattle.std.specs.Result.{result_ok}
@@ -13,7 +13,7 @@ use Rattle.pts_types.specs.declared.value.Value.{Value}
 use Rattle.pts_groupings.specs.Brackets.{combined, NoncommutativeSum}
 use Rattle.pts_groupings.specs.Chunks.{chunk_count, sharing, single_group, IsGrouping}
 use Rattle.pts_groupings.specs.Sums.{all_given, sum_of, IsSum}
-use Rattle.pts_groupings.specs.Scans.{Scan, reach, HasStart, places_of, IsPlaceSum, HasThrow}
+use Rattle.pts_groupings.specs.Scans.{Scan, belonging, HasStart, places_of, IsPlaceSum, HasThrow}
 use Rattle.pts_groupings.specs.Reductions.{contributed, accumulator, accumulators, reduction_of, IsCombined}
 
 -- an operation of the scripts, where None stands for what it throws
@@ -52,7 +52,7 @@ ThrowsAreSums =
 abbrev pub ItemsThrow : Type 0
 ItemsThrow =
     (op : Value → Value → Option Value) (policy : Policy) (scan : Scan) (size : ℕ) (init : Option Value) (items : List (Option Value)) (p : ℕ)
-    → 0 < size → HasStart scan init → p < length items → all_given (take (reach scan p) items) ≡ None → places_of policy scan size op init items ≡ None
+    → 0 < size → HasStart scan init → p < length items → all_given (belonging scan items p) ≡ None → places_of policy scan size op init items ≡ None
 
 -- a reduction over groups combines their accumulators in their order, and throws where one of them does
 abbrev pub ReductionsCombine : Type 0

@@ -36,10 +36,15 @@ place policy scan size op init items p =
 abbrev pub places_of : {V : Type 0} → Policy → Scan → ℕ → (V → V → Option V) → Option V → List (Option V) → Option (List V)
 places_of policy scan size op init items = all_given (map (place policy scan size op init items) (range_with_len 0 (length items)))
 
--- the sum that the standard names for the place at p: of init and the items up to p's, or before p's where the scan is exclusive
+-- the items that the standard names for the place at p: those up to p, or those before it
+abbrev pub belonging : {A : Type 0} → Scan → List A → ℕ → List A
+belonging Inclusive items p = take (p + 1) items
+belonging Exclusive items p = take p items
+
+-- the sum that the standard names for the place at p, of init and the items that belong to it, or a throw where one of these is one
 abbrev pub IsPlaceSum : {V : Type 0} → Scan → (V → V → Option V) → Option V → List (Option V) → ℕ → Option V → Type 0
 IsPlaceSum scan op init items p result =
-    MatchOption (all_given (take (reach scan p) items)) (result ≡ None) (λ values. NoncommutativeSum op (cons_option init values) result)
+    MatchOption (all_given (belonging scan items p)) (result ≡ None) (λ values. NoncommutativeSum op (cons_option init values) result)
 
 -- a place in whose sum a throw lies
 abbrev pub HasThrow : {V : Type 0} → Scan → (V → V → Option V) → Option V → List (Option V) → Type 0
