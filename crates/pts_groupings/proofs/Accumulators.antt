@@ -21,7 +21,8 @@ each_begun size contributions identity [] = All-nil (λ group. 1 ≤ length (ide
 each_begun size contributions identity (group ∷ others) =
     All-cons (λ g. 1 ≤ length (identity ∷ contributed size contributions g)) group others (omega arith) (each_begun size contributions identity others)
 
-pub whole_reduction : {V : Type 0} (size : ℕ) (first : List ℕ) (others : List (List ℕ)) (op : V → V → Option V) (live identity : V) (contributions : List (List V))
+pub whole_reduction : {V : Type 0} (size : ℕ) (first : List ℕ) (others : List (List ℕ)) (op : V → V → Option V) (live identity : V)
+    (contributions : List (List V))
     → NoncommutativeSum op (live ∷ (contributed size contributions first ++ flat_map (λ group. identity ∷ contributed size contributions group) others))
     (reduction_of size (first ∷ others) op live identity contributions)
 whole_reduction size first others op live identity contributions =
@@ -52,7 +53,8 @@ contributions_permuted workers size groups contributions some g =
     let same : (y : ℕ) → times y (flat_map (λ group. group) groups) ≡ times y (range_with_len 0 count) = λ y. g.each_once y ∙ sym (times-count_up y count) in
     let moved = same_parts part (range_with_len 0 count) (flat_map (λ group. group) groups) same in
     let from : flat_map part (range_with_len 0 count) ≡ flat_map (λ own. own) contributions =
-    sym (flat_map-flat_map (λ own. own) (chunk size contributions) (range_with_len 0 count)) ∙ ap (flat_map (λ own. own)) (all_chunks size contributions some) in
+    sym (flat_map-flat_map (λ own. own) (chunk size contributions) (range_with_len 0 count))
+    ∙ ap (flat_map (λ own. own)) (all_chunks size contributions some) in
     let to : flat_map part (flat_map (λ group. group) groups) ≡ flat_map (contributed size contributions) groups =
     flat_map-flat_map part (λ group. group) groups
     ∙ flat_map-same (flat_map part) (contributed size contributions)
@@ -106,7 +108,8 @@ module _ {V : Type 0} (op : V → V → Option V) (May : List V → Type 0) (tot
   pub every_reduction : (workers size : ℕ) (groups : List (List ℕ)) (contributions : List (List V)) → 0 < size
       → IsGrouping workers (chunk_count (length contributions) size) groups → May (live ∷ flat_map (λ own. own) contributions)
       → reduction_of size groups op live identity contributions ≡ total (live ∷ flat_map (λ own. own) contributions)
-  every_reduction workers size [] contributions some g may = none contributions (length_permutation contributions [] (grouped workers size contributions [] some g)) may
+  every_reduction workers size [] contributions some g may = none contributions
+      (length_permutation contributions [] (grouped workers size contributions [] some g)) may
     where
       none : (contributions : List (List V)) → 0 ≡ length contributions → May (live ∷ flat_map (λ own. own) contributions)
           → Some live ≡ total (live ∷ flat_map (λ own. own) contributions)

@@ -43,7 +43,8 @@ module _ {V : Type 0} (In : V → Type 0) (op : V → V → Option V) (h : IsFre
   assoc (Some a) None y a_in b_in y_in = refl
   assoc (Some a) (Some b) y a_in b_in y_in = h.grouped a b y a_in b_in y_in
 
-  exchange : (s : Option V) (y z : V) → IfSome s In → In y → In z → combined op (combined op s (Some y)) (Some z) ≡ combined op (combined op s (Some z)) (Some y)
+  exchange : (s : Option V) (y z : V) → IfSome s In → In y → In z
+      → combined op (combined op s (Some y)) (Some z) ≡ combined op (combined op s (Some z)) (Some y)
   exchange None y z s_in y_in z_in = refl
   exchange (Some a) y z s_in y_in z_in =
       h.grouped a y z s_in y_in z_in ∙ ap (combined op (Some a)) (h.turned y z y_in z_in) ∙ sym (h.grouped a z y s_in z_in y_in)

@@ -60,10 +60,12 @@ put_first f x all front back h =
     IsPermutation-append_left behind (f x ++ before) (before ++ f x) (IsPermutation-append_comm (f x) before) in
     let from : (f x ++ before) ++ behind ≡ f x ++ (before ++ behind) = append_assoc (f x) before behind in
     let to : (before ++ f x) ++ behind ≡ flat_map f (front ++ x ∷ back) = append_assoc before (f x) behind ∙ sym (flat_map-append f front (x ∷ back)) in
-    IsPermutation-trans _ _ _ first (subst (λ l. IsPermutation l (flat_map f (front ++ x ∷ back))) from (subst (IsPermutation ((f x ++ before) ++ behind)) to turned))
+    IsPermutation-trans _ _ _ first (subst (λ l. IsPermutation l (flat_map f (front ++ x ∷ back))) from
+    (subst (IsPermutation ((f x ++ before) ++ behind)) to turned))
 
 -- one number less in both lists
-one_less : (x : ℕ) (all front back xs : List ℕ) → xs ≡ front ++ x ∷ back → ((y : ℕ) → times y xs ≡ times y (x ∷ all)) → (y : ℕ) → times y (front ++ back) ≡ times y all
+one_less : (x : ℕ) (all front back xs : List ℕ) → xs ≡ front ++ x ∷ back → ((y : ℕ) → times y xs ≡ times y (x ∷ all)) → (y : ℕ)
+    → times y (front ++ back) ≡ times y all
 one_less x all front back xs is same y =
     let e = same y in
     let e' = ap (times y) is in
@@ -120,7 +122,8 @@ once_is_below : (c count : ℕ) → 1 ≤ cond (ltb c count) 1 0 → c < count
 once_is_below c count h = grind (arith, nat_tests)
 
 -- each group has items
-pub each_some : {A : Type 0} (workers size : ℕ) (items : List A) (groups : List (List ℕ)) → 0 < size → IsGrouping workers (chunk_count (length items) size) groups
+pub each_some : {A : Type 0} (workers size : ℕ) (items : List A) (groups : List (List ℕ)) → 0 < size
+    → IsGrouping workers (chunk_count (length items) size) groups
     → All (λ group. 1 ≤ length (flat_map (chunk size items) group)) groups
 each_some workers size items groups some g =
     groups_some size items groups some

@@ -80,7 +80,8 @@ place_items scan size items q r l =
 
 -- ---- folds that begin with init
 
-start_some : {V : Type 0} (scan : Scan) (init : Option V) (p : ℕ) (vs : List V) → HasStart scan init → length vs ≡ reach scan p → 1 ≤ length (cons_option init vs)
+start_some : {V : Type 0} (scan : Scan) (init : Option V) (p : ℕ) (vs : List V) → HasStart scan init → length vs ≡ reach scan p
+    → 1 ≤ length (cons_option init vs)
 start_some Inclusive None p vs h e = omega (arith, e)
 start_some Inclusive (Some v) p vs h e = omega arith
 start_some Exclusive None p vs h e = absurd h
@@ -90,12 +91,14 @@ trees_some : {V : Type 0} (ts : List (Bracketing V)) (vs : List V) → flat_map 
 trees_some [] vs e l = absurd (let e' = ap length e in omega (arith, e', l))
 trees_some (t ∷ ts) vs e l = omega arith
 
-begun_sum : {V : Type 0} (op : V → V → Option V) (init : Option V) (ts : List (Bracketing V)) (vs : List V) → flat_map leaves ts ≡ vs → 1 ≤ length (cons_option init vs)
+begun_sum : {V : Type 0} (op : V → V → Option V) (init : Option V) (ts : List (Bracketing V)) (vs : List V) → flat_map leaves ts ≡ vs
+    → 1 ≤ length (cons_option init vs)
     → NoncommutativeSum op (cons_option init vs) (folded op (cons_option (option_map Some init) (map (outcome_of op) ts)))
 begun_sum op None ts vs e l = sum_as op _ _ _ _ (fold_sum op ts (trees_some ts vs e l)) e refl
 begun_sum op (Some v) ts vs e l = sum_as op _ _ _ _ (comb_sum op (Leaf v) ts) (ap (λ l. v ∷ l) e) refl
 
-begun_throws : {V : Type 0} (op : V → V → Option V) (init : Option V) (xs : List (Option V)) → Contains xs None → folded op (cons_option (option_map Some init) xs) ≡ None
+begun_throws : {V : Type 0} (op : V → V → Option V) (init : Option V) (xs : List (Option V)) → Contains xs None
+    → folded op (cons_option (option_map Some init) xs) ≡ None
 begun_throws op None xs h = folded_throws op xs h
 begun_throws op (Some v) xs h = folded_throws op (Some v ∷ xs) (Contains-append_right (Some v ∷ []) xs None h)
 
@@ -138,7 +141,8 @@ shared_values op scan size init items vs q r l e count some =
     let rest = drop (q * size) vs in
     let held : flat_map leaves (t.trees ++ map Leaf rest) ≡ vs =
     flat_map-append leaves t.trees (map Leaf rest)
-    ∙ ap (λ xs. xs ++ flat_map leaves (map Leaf rest)) (t.hold ∙ chunks-joined size vs 0 q ∙ ap (λ k. take (q * size) (drop k vs)) (let z : 0 * size ≡ 0 = omega arith in z))
+    ∙ ap (λ xs. xs ++ flat_map leaves (map Leaf rest)) (t.hold ∙ chunks-joined size vs 0 q
+    ∙ ap (λ k. take (q * size) (drop k vs)) (let z : 0 * size ≡ 0 = omega arith in z))
     ∙ ap (λ xs. take (q * size) vs ++ xs) (leaves-values rest)
     ∙ take-append-drop (q * size) vs in
     let before : map (outcome_of op) t.trees ≡ map (λ c. folded op (chunk size items c)) (range_with_len 0 q) =
@@ -192,10 +196,12 @@ either_place op policy scan size init items p some begun l (Values vs e given) =
     let taken = length-take (reach scan p) items in
     let same : length (take (reach scan p) items) ≡ length vs = ap length e ∙ length-map vs Some in
     let count : length vs ≡ reach scan p = (let b = bounds.1 in omega (arith, b, taken, same, l)) in
-    subst (λ o. MatchOption o (place policy scan size op init items p ≡ None) (λ values. NoncommutativeSum op (cons_option init values) (place policy scan size op init items p)))
+    subst (λ o. MatchOption o (place policy scan size op init items p ≡ None)
+    (λ values. NoncommutativeSum op (cons_option init values) (place policy scan size op init items p)))
     (sym given) (value_place op policy scan size init items vs p some e count (start_some scan init p vs begun count))
 either_place op policy scan size init items p some begun l (Throws h given) =
-    subst (λ o. MatchOption o (place policy scan size op init items p ≡ None) (λ values. NoncommutativeSum op (cons_option init values) (place policy scan size op init items p)))
+    subst (λ o. MatchOption o (place policy scan size op init items p ≡ None)
+    (λ values. NoncommutativeSum op (cons_option init values) (place policy scan size op init items p)))
     (sym given) (place_throws op policy scan size init items p some h)
 
 belongs : {A : Type 0} (scan : Scan) (items : List A) (p : ℕ) → belonging scan items p ≡ take (reach scan p) items
@@ -206,5 +212,6 @@ belongs Exclusive items p = refl
 pub place_is_sum : {V : Type 0} (op : V → V → Option V) (policy : Policy) (scan : Scan) (size : ℕ) (init : Option V) (items : List (Option V)) (p : ℕ)
     → 0 < size → HasStart scan init → p < length items → IsPlaceSum scan op init items p (place policy scan size op init items p)
 place_is_sum op policy scan size init items p some begun l =
-    subst (λ own. MatchOption (all_given own) (place policy scan size op init items p ≡ None) (λ values. NoncommutativeSum op (cons_option init values) (place policy scan size op init items p)))
+    subst (λ own. MatchOption (all_given own) (place policy scan size op init items p ≡ None)
+    (λ values. NoncommutativeSum op (cons_option init values) (place policy scan size op init items p)))
     (sym (belongs scan items p)) (either_place op policy scan size init items p some begun l (items_of (take (reach scan p) items)))

@@ -60,10 +60,12 @@ either_sum {V} op policy workers size groups init items some g (Values vs e give
     values_sum op policy workers size groups init vs some (subst (λ n. IsGrouping workers (chunk_count n size) groups) count g) in
     let own : GeneralizedSum op (init ∷ vs) (sum_of policy size groups op init items) =
     subst (λ l. GeneralizedSum op (init ∷ vs) (sum_of policy size groups op init l)) (sym e) sum in
-    subst (λ o. MatchOption o (sum_of policy size groups op init items ≡ None) (λ values. GeneralizedSum op (init ∷ values) (sum_of policy size groups op init items)))
+    subst (λ o. MatchOption o (sum_of policy size groups op init items ≡ None)
+    (λ values. GeneralizedSum op (init ∷ values) (sum_of policy size groups op init items)))
     (sym given) own
 either_sum {V} op policy workers size groups init items some g (Throws h given) =
-    subst (λ o. MatchOption o (sum_of policy size groups op init items ≡ None) (λ values. GeneralizedSum op (init ∷ values) (sum_of policy size groups op init items)))
+    subst (λ o. MatchOption o (sum_of policy size groups op init items ≡ None)
+    (λ values. GeneralizedSum op (init ∷ values) (sum_of policy size groups op init items)))
     (sym given) (throws_sum op policy workers size groups init items some g h)
 
 -- the sum of every grouping is a generalized sum of init and the items, and throws where a transform throws

@@ -69,8 +69,10 @@ module _ {V : Type 0} (op : V → V → Option V) (May : List V → Type 0) (tot
       → ((vs : List V) → all_given (belonging scan items p) ≡ Some vs → May (cons_option init vs))
       → IsPlaceSum scan op init items p a → IsPlaceSum scan op init items p b → Items (belonging scan items p) → a ≡ b
   one_place scan init items p a b may s s' (Values vs e given) =
-      noncommutative_total (cons_option init vs) a (MatchOption-at_some (a ≡ None) (λ values. NoncommutativeSum op (cons_option init values) a) vs given s) (may vs given)
-      ∙ sym (noncommutative_total (cons_option init vs) b (MatchOption-at_some (b ≡ None) (λ values. NoncommutativeSum op (cons_option init values) b) vs given s') (may vs given))
+      noncommutative_total (cons_option init vs) a (MatchOption-at_some (a ≡ None)
+      (λ values. NoncommutativeSum op (cons_option init values) a) vs given s) (may vs given)
+      ∙ sym (noncommutative_total (cons_option init vs) b (MatchOption-at_some (b ≡ None)
+      (λ values. NoncommutativeSum op (cons_option init values) b) vs given s') (may vs given))
   one_place scan init items p a b may s s' (Throws _ given) =
       MatchOption-at_none (a ≡ None) (λ values. NoncommutativeSum op (cons_option init values) a) given s
       ∙ sym (MatchOption-at_none (b ≡ None) (λ values. NoncommutativeSum op (cons_option init values) b) given s')

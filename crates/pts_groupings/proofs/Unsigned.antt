@@ -29,11 +29,13 @@ use Rattle.pts_groupings.proofs.Totals.{HasTotals, every_grouping, every_place}
 
 -- ---- free
 
-then_first : (op : ScalarOp) (r : Result Value Thrown) (z : Value) → combined (given op) (result_ok r) (Some z) ≡ result_ok (and_then r (λ v. value_under op v z))
+then_first : (op : ScalarOp) (r : Result Value Thrown) (z : Value)
+    → combined (given op) (result_ok r) (Some z) ≡ result_ok (and_then r (λ v. value_under op v z))
 then_first op (Ok v) z = refl
 then_first op (Err t) z = refl
 
-then_second : (op : ScalarOp) (r : Result Value Thrown) (x : Value) → combined (given op) (Some x) (result_ok r) ≡ result_ok (and_then r (λ v. value_under op x v))
+then_second : (op : ScalarOp) (r : Result Value Thrown) (x : Value)
+    → combined (given op) (Some x) (result_ok r) ≡ result_ok (and_then r (λ v. value_under op x v))
 then_second op (Ok v) x = refl
 then_second op (Err t) x = refl
 
@@ -142,4 +144,5 @@ reductions_are_left_folds op workers size groups live contributions h some g liv
     every_reduction (given op) (All IsU64) (left_fold (given op)) (u64_totals op h) live (identity_of op live) (u64_neutral op h live live_in)
     (λ l all'. All-cons IsU64 live (identity_of op live ∷ l) (All-head IsU64 live l all')
     (All-cons IsU64 (identity_of op live) l (identity_is_u64 op h live live_in) (All-tail IsU64 live l all')))
-    workers size groups contributions some g (All-cons IsU64 live (flat_map (λ own. own) contributions) (value_is_u64 live live_in) (contributions_in contributions all))
+    workers size groups contributions some g (All-cons IsU64 live (flat_map (λ own. own) contributions) (value_is_u64 live live_in)
+    (contributions_in contributions all))

@@ -23,7 +23,8 @@ given op x y = result_ok (value_under op x y)
 -- where one worker has all chunks, by its policy or by itself, a grouping is the one group of all chunks in order
 abbrev pub OneWorkerHasOneGrouping : Type 0
 OneWorkerHasOneGrouping =
-    (policy : Policy) (workers chunks : ℕ) (groups : List (List ℕ)) → sharing policy workers ≡ 1 → IsGrouping (sharing policy workers) chunks groups → groups ≡ single_group chunks
+    (policy : Policy) (workers chunks : ℕ) (groups : List (List ℕ)) → sharing policy workers ≡ 1 → IsGrouping (sharing policy workers) chunks groups
+    → groups ≡ single_group chunks
 
 -- that is a grouping, among however many workers
 abbrev pub OneGroupIsAGrouping : Type 0
