@@ -9,5 +9,6 @@ pub mod Scans
 pub mod Totals
 pub mod Free
 pub mod Accumulators
+pub mod LeftFolds
 pub mod Unsigned
 pub mod Single

@@ -17,27 +17,11 @@ use Rattle.pts_types.specs.declared.value.Thrown.{Thrown}
 use Rattle.pts_types.specs.declared.value.Value.{Value}
 use Rattle.pts_types.specs.declared.value.Value.TheVariants.{U64}
 use Rattle.pts_types.proofs.Grouping.{u64-associative, u64-commutative}
-use Rattle.pts_groupings.specs.Brackets.{combined}
-use Rattle.pts_groupings.specs.Sums.{all_given}
-use Rattle.pts_groupings.specs.Scans.{Scan, Inclusive, Exclusive, belonging}
 use Rattle.pts_groupings.specs.Laws.{given, SumsAreLeftFolds, PlacesAreLeftFolds, ReductionsAreLeftFolds}
-use Rattle.pts_groupings.proofs.Accumulators.{every_reduction}
-use Rattle.pts_groupings.proofs.Free.{IsFree, free_totals, left_fold}
-use Rattle.pts_groupings.proofs.Scans.{given_values}
-use Rattle.pts_groupings.proofs.Throws.{items_of}
-use Rattle.pts_groupings.proofs.Totals.{HasTotals, every_grouping, every_place}
+use Rattle.pts_groupings.proofs.Free.{IsFree}
+use Rattle.pts_groupings.proofs.LeftFolds.{then_first, then_second, sums_are_left_folds, places_are_left_folds, reductions_are_left_folds}
 
 -- ---- free
-
-then_first : (op : ScalarOp) (r : Result Value Thrown) (z : Value)
-    → combined (given op) (result_ok r) (Some z) ≡ result_ok (and_then r (λ v. value_under op v z))
-then_first op (Ok v) z = refl
-then_first op (Err t) z = refl
-
-then_second : (op : ScalarOp) (r : Result Value Thrown) (x : Value)
-    → combined (given op) (Some x) (result_ok r) ≡ result_ok (and_then r (λ v. value_under op x v))
-then_second op (Ok v) x = refl
-then_second op (Err t) x = refl
 
 numbers_stay : (op : ScalarOp) → IsReduction op → (m n : ℕ) → IfSome (given op (U64 m) (U64 n)) IsU64
 numbers_stay Plus h m n = tt
@@ -60,9 +44,6 @@ u64_free op h = record {
   grouped = λ x y z p q r. then_first op (value_under op x y) z ∙ ap result_ok (u64-associative op h x y z p q r) ∙ sym (then_second op (value_under op y z) x);
   turned = λ x y p q. ap result_ok (u64-commutative op h x y p q);
 }
-
-u64_totals : (op : ScalarOp) → IsReduction op → HasTotals (given op) (All IsU64) (left_fold (given op))
-u64_totals op h = free_totals IsU64 (given op) (u64_free op h)
 
 -- ---- identities
 
@@ -102,47 +83,13 @@ value_is_u64 : (live : Value) → IsValueOf kinds.U64 live → IsU64 live
 value_is_u64 (U64 n) l = tt
 value_is_u64 live l = absurd l
 
--- ---- lists of values
-
-values_in : (vs : List Value) → All (λ item. IfSome item IsU64) (map Some vs) → All IsU64 vs
-values_in [] all = All-nil IsU64
-values_in (v ∷ vs) all =
-    All-cons IsU64 v vs (All-head (λ item. IfSome item IsU64) (Some v) (map Some vs) all)
-    (values_in vs (All-tail (λ item. IfSome item IsU64) (Some v) (map Some vs) all))
-
-given_in : (items : List (Option Value)) (vs : List Value) → all_given items ≡ Some vs → All (λ item. IfSome item IsU64) items → All IsU64 vs
-given_in items vs e all = values_in vs (subst (All (λ item. IfSome item IsU64)) (given_values items vs e (items_of items)) all)
-
-own_in : (scan : Scan) (items : List (Option Value)) (p : ℕ) → All (λ item. IfSome item IsU64) items → All (λ item. IfSome item IsU64) (belonging scan items p)
-own_in Inclusive items p all = All-take (λ item. IfSome item IsU64) (p + 1) items all
-own_in Exclusive items p all = All-take (λ item. IfSome item IsU64) p items all
-
-begun_in : (init : Option Value) (vs : List Value) → IfSome init IsU64 → All IsU64 vs → All IsU64 (cons_option init vs)
-begun_in None vs h all = all
-begun_in (Some v) vs h all = All-cons IsU64 v vs h all
-
-contributions_in : (contributions : List (List Value)) → All (All IsU64) contributions → All IsU64 (flat_map (λ own. own) contributions)
-contributions_in [] all = All-nil IsU64
-contributions_in (own ∷ contributions) all =
-    All-append IsU64 own (flat_map (λ l. l) contributions) (All-head (All IsU64) own contributions all)
-    (contributions_in contributions (All-tail (All IsU64) own contributions all))
-
 -- ---- laws
 
-pub sums_are_left_folds : SumsAreLeftFolds
-sums_are_left_folds op policy workers size groups init items h some g init_in all =
-    every_grouping (given op) (All IsU64) (left_fold (given op)) (u64_totals op h) policy workers size groups init items some g
-    (λ vs e. All-cons IsU64 init vs init_in (given_in items vs e all))
+pub u64_sums : SumsAreLeftFolds IsReduction IsU64
+u64_sums = sums_are_left_folds IsReduction IsU64 u64_free
 
-pub places_are_left_folds : PlacesAreLeftFolds
-places_are_left_folds op policy scan size init items h some begun init_in all =
-    every_place (given op) (All IsU64) (left_fold (given op)) (u64_totals op h) policy scan size init items some begun
-    (λ p vs l e. begun_in init vs init_in (given_in (belonging scan items p) vs e (own_in scan items p all)))
+pub u64_places : PlacesAreLeftFolds IsReduction IsU64
+u64_places = places_are_left_folds IsReduction IsU64 u64_free
 
-pub reductions_are_left_folds : ReductionsAreLeftFolds
-reductions_are_left_folds op workers size groups live contributions h some g live_in all =
-    every_reduction (given op) (All IsU64) (left_fold (given op)) (u64_totals op h) live (identity_of op live) (u64_neutral op h live live_in)
-    (λ l all'. All-cons IsU64 live (identity_of op live ∷ l) (All-head IsU64 live l all')
-    (All-cons IsU64 (identity_of op live) l (identity_is_u64 op h live live_in) (All-tail IsU64 live l all')))
-    workers size groups contributions some g (All-cons IsU64 live (flat_map (λ own. own) contributions) (value_is_u64 live live_in)
-    (contributions_in contributions all))
+pub u64_reductions : ReductionsAreLeftFolds IsReduction IsU64 kinds.U64
+u64_reductions = reductions_are_left_folds IsReduction IsU64 u64_free kinds.U64 value_is_u64 u64_neutral identity_is_u64

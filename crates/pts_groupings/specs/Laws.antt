@@ -3,9 +3,8 @@ use Rattle.std.specs.Prelude.{◌≡◌, ℕ, ◌<◌, ◌≤◌, Option, Some, 
 use Rattle.std.specs.List.{flat_map, fold, slice_get}
 use Rattle.std.specs.Option.{IfSome}
 use Rattle.std.specs.Result.{result_ok}
-use Rattle.pts_types.specs.Arithmetic.{value_under, identity_of, IsReduction, IsValueOf}
-use Rattle.pts_types.specs.Laws.{IsU64}
-use Rattle.pts_types.specs.declared.value.Kind.TheVariants as kinds
+use Rattle.pts_types.specs.Arithmetic.{value_under, identity_of, IsValueOf}
+use Rattle.pts_types.specs.declared.value.Kind.{Kind}
 use Rattle.pts_types.specs.declared.operation.Policy.TheVariants.{Seq}
 use Rattle.pts_types.specs.declared.operation.Policy.{Policy}
 use Rattle.pts_types.specs.declared.operation.ScalarOp.{ScalarOp}
@@ -74,26 +73,26 @@ ReductionsAreSums =
     → NoncommutativeSum op (live ∷ (contributed size contributions first ++ flat_map (λ group. identity ∷ contributed size contributions group) others))
     (reduction_of size (first ∷ others) op live identity contributions)
 
--- ---- the seven operations on u64: the left fold alone
+-- ---- operations whose answer no grouping changes: those that apply, on the values of a kind
 
--- on u64 the sum of any grouping, under any policy, is the left fold of init and the items
-abbrev pub SumsAreLeftFolds : Type 0
-SumsAreLeftFolds =
+-- the sum of any grouping, under any policy, is the left fold of init and the items
+abbrev pub SumsAreLeftFolds : (ScalarOp → Type 0) → (Value → Type 0) → Type 0
+SumsAreLeftFolds Applies Has =
     (op : ScalarOp) (policy : Policy) (workers size : ℕ) (groups : List (List ℕ)) (init : Value) (items : List (Option Value))
-    → IsReduction op → 0 < size → IsGrouping workers (chunk_count (length items) size) groups → IsU64 init → All (λ item. IfSome item IsU64) items
+    → Applies op → 0 < size → IsGrouping workers (chunk_count (length items) size) groups → Has init → All (λ item. IfSome item Has) items
     → sum_of policy size groups (given op) init items ≡ fold (combined (given op)) (Some init) items
 
--- on u64 the places of a scan are those of the left folds, whatever the policy and the chunk length
-abbrev pub PlacesAreLeftFolds : Type 0
-PlacesAreLeftFolds =
+-- the places of a scan are those of the left folds, whatever the policy and the chunk length
+abbrev pub PlacesAreLeftFolds : (ScalarOp → Type 0) → (Value → Type 0) → Type 0
+PlacesAreLeftFolds Applies Has =
     (op : ScalarOp) (policy : Policy) (scan : Scan) (size : ℕ) (init : Option Value) (items : List (Option Value))
-    → IsReduction op → 0 < size → HasStart scan init → IfSome init IsU64 → All (λ item. IfSome item IsU64) items
+    → Applies op → 0 < size → HasStart scan init → IfSome init Has → All (λ item. IfSome item Has) items
     → places_of policy scan size (given op) init items ≡ places_of Seq scan size (given op) init items
 
--- on u64 a reduction with the operation's own identity is, over any grouping, the left fold of the live value and all contributions
-abbrev pub ReductionsAreLeftFolds : Type 0
-ReductionsAreLeftFolds =
+-- a reduction with the operation's own identity is, over any grouping, the left fold of the live value and all contributions
+abbrev pub ReductionsAreLeftFolds : (ScalarOp → Type 0) → (Value → Type 0) → Kind → Type 0
+ReductionsAreLeftFolds Applies Has kind =
     (op : ScalarOp) (workers size : ℕ) (groups : List (List ℕ)) (live : Value) (contributions : List (List Value))
-    → IsReduction op → 0 < size → IsGrouping workers (chunk_count (length contributions) size) groups → IsValueOf kinds.U64 live → All (All IsU64) contributions
+    → Applies op → 0 < size → IsGrouping workers (chunk_count (length contributions) size) groups → IsValueOf kind live → All (All Has) contributions
     → reduction_of size groups (given op) live (identity_of op live) contributions
     ≡ fold (combined (given op)) (Some live) (map Some (flat_map (λ own. own) contributions))

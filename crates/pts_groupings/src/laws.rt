@@ -1,5 +1,8 @@
 //! Laws of sums, scans and reductions, whatever the policy, the chunk length and the grouping.
 
+ghost use Rattle.pts_types.specs.Arithmetic.{IsReduction};
+ghost use Rattle.pts_types.specs.Laws.{IsU64};
+ghost use Rattle.pts_types.specs.declared.value.Kind.TheVariants as kinds;
 ghost use Rattle.pts_groupings.specs.Laws as laws;
 
 /// One worker has one grouping, the one group of all chunks in order, which is one among any workers.
@@ -32,7 +35,7 @@ pub fn reductions_combine_their_accumulators()
 /// On `u64` each of the seven operations gives the left fold, whatever the policy, the chunk length and the grouping, in sums, in
 /// scans and in reductions of loops.
 pub fn unsigned_sums_are_left_folds()
-    ensures sums { laws.SumsAreLeftFolds }
-    ensures places { laws.PlacesAreLeftFolds }
-    ensures reductions { laws.ReductionsAreLeftFolds }
+    ensures sums { laws.SumsAreLeftFolds IsReduction IsU64 }
+    ensures places { laws.PlacesAreLeftFolds IsReduction IsU64 }
+    ensures reductions { laws.ReductionsAreLeftFolds IsReduction IsU64 kinds.U64 }
 {}
