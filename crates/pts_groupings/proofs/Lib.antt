@@ -12,3 +12,4 @@ pub mod Accumulators
 pub mod LeftFolds
 pub mod Unsigned
 pub mod Single
+pub mod Signed

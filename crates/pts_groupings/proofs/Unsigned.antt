@@ -1,19 +1,15 @@
 -- The seven operations of reductions are free on u64, and each has a neutral identity there.
-use Rattle.std.proofs.Common.{◌≡◌, ℕ, ◌+◌, ◌*◌, ◌%◌, ◌^◌, ◌<◌, Option, Some, None, List, [], ◌∷◌, map, min, max, refl, sym, ap, subst, ◌∙◌, arith}
-use Rattle.std.specs.Prelude.{Result, Ok, Err}
-use Rattle.std.specs.List.{flat_map, cons_option, All}
+use Rattle.std.proofs.Common.{◌≡◌, ℕ, ◌+◌, ◌*◌, ◌%◌, ◌^◌, ◌<◌, Option, Some, min, max, sym, ap, ◌∙◌, arith}
 use Rattle.std.specs.Option.{IfSome}
 use Rattle.std.specs.Result.{result_ok}
 use Rattle.std.specs.Int.Bits.{or_zero_r, xor_zero_r}
 use Rattle.std.proofs.Math.Nat.{mod-eq_of_lt}
 use Rattle.std.proofs.lemmas.Nat.{and_mask}
-use Rattle.std.proofs.lemmas.List.Elements.{All-nil, All-cons, All-head, All-tail, All-append, All-take}
 use Rattle.pts_types.specs.Arithmetic.{IsReduction, IsValueOf, identity_of, value_under}
-use Rattle.pts_types.specs.Laws.{IsU64, and_then}
+use Rattle.pts_types.specs.Laws.{IsU64}
 use Rattle.pts_types.specs.declared.operation.ScalarOp.{ScalarOp}
 use Rattle.pts_types.specs.declared.operation.ScalarOp.TheVariants.{Plus, Multiplies, BitAnd, BitOr, BitXor, Min, Max}
 use Rattle.pts_types.specs.declared.value.Kind.TheVariants as kinds
-use Rattle.pts_types.specs.declared.value.Thrown.{Thrown}
 use Rattle.pts_types.specs.declared.value.Value.{Value}
 use Rattle.pts_types.specs.declared.value.Value.TheVariants.{U64}
 use Rattle.pts_types.proofs.Grouping.{u64-associative, u64-commutative}

@@ -1,7 +1,7 @@
 //! Laws of sums, scans and reductions, whatever the policy, the chunk length and the grouping.
 
 ghost use Rattle.pts_types.specs.Arithmetic.{IsReduction};
-ghost use Rattle.pts_types.specs.Laws.{IsU64};
+ghost use Rattle.pts_types.specs.Laws.{IsI64, IsSelection, IsU64};
 ghost use Rattle.pts_types.specs.declared.value.Kind.TheVariants as kinds;
 ghost use Rattle.pts_groupings.specs.Laws as laws;
 
@@ -38,4 +38,11 @@ pub fn unsigned_sums_are_left_folds()
     ensures sums { laws.SumsAreLeftFolds IsReduction IsU64 }
     ensures places { laws.PlacesAreLeftFolds IsReduction IsU64 }
     ensures reductions { laws.ReductionsAreLeftFolds IsReduction IsU64 kinds.U64 }
+{}
+
+/// On `i64` so do `BitAnd`, `BitOr`, `BitXor`, `Min` and `Max`.
+pub fn signed_selections_are_left_folds()
+    ensures sums { laws.SumsAreLeftFolds IsSelection IsI64 }
+    ensures places { laws.PlacesAreLeftFolds IsSelection IsI64 }
+    ensures reductions { laws.ReductionsAreLeftFolds IsSelection IsI64 kinds.I64 }
 {}

@@ -11,6 +11,6 @@ mod laws;
 
 pub use laws::{
     one_worker_has_one_grouping, places_are_sums_of_their_items,
-    reductions_combine_their_accumulators, sums_of_groupings_are_generalized,
-    unsigned_sums_are_left_folds,
+    reductions_combine_their_accumulators, signed_selections_are_left_folds,
+    sums_of_groupings_are_generalized, unsigned_sums_are_left_folds,
 };
