@@ -14,12 +14,12 @@ use Rattle.pts_types.specs.declared.value.Value.{Value}
 use Rattle.pts_groupings.specs.Brackets.{combined}
 use Rattle.pts_groupings.specs.Sums.{all_given}
 use Rattle.pts_groupings.specs.Scans.{Scan, Inclusive, Exclusive, belonging}
-use Rattle.pts_groupings.specs.Laws.{given, SumsAreLeftFolds, PlacesAreLeftFolds, ReductionsAreLeftFolds}
+use Rattle.pts_groupings.specs.Laws.{given, OneOutcome, SumsAreLeftFolds, PlacesAreLeftFolds, ReductionsAreLeftFolds}
 use Rattle.pts_groupings.proofs.Accumulators.{every_reduction}
 use Rattle.pts_groupings.proofs.Free.{IsFree, free_totals, left_fold}
 use Rattle.pts_groupings.proofs.Scans.{given_values}
 use Rattle.pts_groupings.proofs.Throws.{items_of}
-use Rattle.pts_groupings.proofs.Totals.{HasTotals, every_grouping, every_place}
+use Rattle.pts_groupings.proofs.Totals.{HasTotals, generalized_total, every_grouping, every_place}
 
 -- ---- outcomes of two operations
 
@@ -64,6 +64,9 @@ module _ (Has : Value → Type 0) where
 module _ (Applies : ScalarOp → Type 0) (Has : Value → Type 0) (free : (op : ScalarOp) → Applies op → IsFree Has (given op)) where
   totals : (op : ScalarOp) → Applies op → HasTotals (given op) (All Has) (left_fold (given op))
   totals op h = free_totals Has (given op) (free op h)
+
+  pub one_outcome : OneOutcome Applies Has
+  one_outcome op items result h all s = generalized_total (given op) (All Has) (left_fold (given op)) (totals op h) items result s all
 
   pub sums_are_left_folds : SumsAreLeftFolds Applies Has
   sums_are_left_folds op policy workers size groups init items h some g init_in all =

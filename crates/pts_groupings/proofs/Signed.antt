@@ -18,9 +18,9 @@ use Rattle.pts_types.specs.declared.value.Value.{Value}
 use Rattle.pts_types.specs.declared.value.Value.TheVariants.{I64}
 use Rattle.pts_types.proofs.Bitwise.{unsigned-lt}
 use Rattle.pts_types.proofs.Grouping.{i64-associative, i64-commutative}
-use Rattle.pts_groupings.specs.Laws.{given, SumsAreLeftFolds, PlacesAreLeftFolds, ReductionsAreLeftFolds}
+use Rattle.pts_groupings.specs.Laws.{given, OneOutcome, SumsAreLeftFolds, PlacesAreLeftFolds, ReductionsAreLeftFolds}
 use Rattle.pts_groupings.proofs.Free.{IsFree}
-use Rattle.pts_groupings.proofs.LeftFolds.{then_first, then_second, sums_are_left_folds, places_are_left_folds, reductions_are_left_folds}
+use Rattle.pts_groupings.proofs.LeftFolds.{then_first, then_second, one_outcome, sums_are_left_folds, places_are_left_folds, reductions_are_left_folds}
 
 -- ---- numbers of 64 bits
 
@@ -89,6 +89,9 @@ value_is_i64 (I64 z) p = p
 value_is_i64 live p = absurd p
 
 -- ---- laws
+
+pub i64_outcome : OneOutcome IsSelection IsI64
+i64_outcome = one_outcome IsSelection IsI64 i64_free
 
 pub i64_sums : SumsAreLeftFolds IsSelection IsI64
 i64_sums = sums_are_left_folds IsSelection IsI64 i64_free

@@ -13,9 +13,9 @@ use Rattle.pts_types.specs.declared.value.Kind.TheVariants as kinds
 use Rattle.pts_types.specs.declared.value.Value.{Value}
 use Rattle.pts_types.specs.declared.value.Value.TheVariants.{U64}
 use Rattle.pts_types.proofs.Grouping.{u64-associative, u64-commutative}
-use Rattle.pts_groupings.specs.Laws.{given, SumsAreLeftFolds, PlacesAreLeftFolds, ReductionsAreLeftFolds}
+use Rattle.pts_groupings.specs.Laws.{given, OneOutcome, SumsAreLeftFolds, PlacesAreLeftFolds, ReductionsAreLeftFolds}
 use Rattle.pts_groupings.proofs.Free.{IsFree}
-use Rattle.pts_groupings.proofs.LeftFolds.{then_first, then_second, sums_are_left_folds, places_are_left_folds, reductions_are_left_folds}
+use Rattle.pts_groupings.proofs.LeftFolds.{then_first, then_second, one_outcome, sums_are_left_folds, places_are_left_folds, reductions_are_left_folds}
 
 -- ---- free
 
@@ -80,6 +80,9 @@ value_is_u64 (U64 n) l = tt
 value_is_u64 live l = absurd l
 
 -- ---- laws
+
+pub u64_outcome : OneOutcome IsReduction IsU64
+u64_outcome = one_outcome IsReduction IsU64 u64_free
 
 pub u64_sums : SumsAreLeftFolds IsReduction IsU64
 u64_sums = sums_are_left_folds IsReduction IsU64 u64_free

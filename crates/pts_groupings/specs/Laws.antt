@@ -9,9 +9,9 @@ use Rattle.pts_types.specs.declared.operation.Policy.TheVariants.{Seq}
 use Rattle.pts_types.specs.declared.operation.Policy.{Policy}
 use Rattle.pts_types.specs.declared.operation.ScalarOp.{ScalarOp}
 use Rattle.pts_types.specs.declared.value.Value.{Value}
-use Rattle.pts_groupings.specs.Brackets.{combined, NoncommutativeSum}
+use Rattle.pts_groupings.specs.Brackets.{combined, GeneralizedSum, NoncommutativeSum}
 use Rattle.pts_groupings.specs.Chunks.{chunk_count, sharing, single_group, IsGrouping}
-use Rattle.pts_groupings.specs.Sums.{all_given, sum_of, IsSum}
+use Rattle.pts_groupings.specs.Sums.{all_given, folded, sum_of, IsSum}
 use Rattle.pts_groupings.specs.Scans.{Scan, belonging, HasStart, places_of, IsPlaceSum, HasThrow}
 use Rattle.pts_groupings.specs.Reductions.{contributed, accumulator, accumulators, reduction_of, IsCombined}
 
@@ -74,6 +74,12 @@ ReductionsAreSums =
     (reduction_of size (first ∷ others) op live identity contributions)
 
 -- ---- operations whose answer no grouping changes: those that apply, on the values of a kind
+
+-- a generalized sum, whatever its brackets and its order, is the left fold
+abbrev pub OneOutcome : (ScalarOp → Type 0) → (Value → Type 0) → Type 0
+OneOutcome Applies Has =
+    (op : ScalarOp) (items : List Value) (result : Option Value)
+    → Applies op → All Has items → GeneralizedSum (given op) items result → result ≡ folded (given op) (map Some items)
 
 -- the sum of any grouping, under any policy, is the left fold of init and the items
 abbrev pub SumsAreLeftFolds : (ScalarOp → Type 0) → (Value → Type 0) → Type 0

@@ -32,9 +32,10 @@ pub fn reductions_combine_their_accumulators()
     ensures whole { laws.ReductionsAreSums }
 {}
 
-/// On `u64` each of the seven operations gives the left fold, whatever the policy, the chunk length and the grouping, in sums, in
-/// scans and in reductions of loops.
+/// On `u64` each of the seven operations gives the left fold, whatever the brackets and the order; so it does whatever the policy,
+/// the chunk length and the grouping, in sums, in scans and in reductions of loops.
 pub fn unsigned_sums_are_left_folds()
+    ensures outcome { laws.OneOutcome IsReduction IsU64 }
     ensures sums { laws.SumsAreLeftFolds IsReduction IsU64 }
     ensures places { laws.PlacesAreLeftFolds IsReduction IsU64 }
     ensures reductions { laws.ReductionsAreLeftFolds IsReduction IsU64 kinds.U64 }
@@ -42,6 +43,7 @@ pub fn unsigned_sums_are_left_folds()
 
 /// On `i64` so do `BitAnd`, `BitOr`, `BitXor`, `Min` and `Max`.
 pub fn signed_selections_are_left_folds()
+    ensures outcome { laws.OneOutcome IsSelection IsI64 }
     ensures sums { laws.SumsAreLeftFolds IsSelection IsI64 }
     ensures places { laws.PlacesAreLeftFolds IsSelection IsI64 }
     ensures reductions { laws.ReductionsAreLeftFolds IsSelection IsI64 kinds.I64 }

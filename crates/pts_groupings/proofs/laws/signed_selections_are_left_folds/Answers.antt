@@ -1,5 +1,8 @@
-use Rattle.pts_groupings.proofs.Signed.{i64_sums, i64_places, i64_reductions}
+use Rattle.pts_groupings.proofs.Signed.{i64_outcome, i64_sums, i64_places, i64_reductions}
 use Rattle.pts_groupings.proofs.laws.signed_selections_are_left_folds.Goals as goal
+
+pub returns-clause-outcome : goal.returns-clause-outcome
+returns-clause-outcome c = i64_outcome
 
 pub returns-clause-sums : goal.returns-clause-sums
 returns-clause-sums c = i64_sums

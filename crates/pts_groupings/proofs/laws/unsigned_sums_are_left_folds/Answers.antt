@@ -1,5 +1,8 @@
-use Rattle.pts_groupings.proofs.Unsigned.{u64_sums, u64_places, u64_reductions}
+use Rattle.pts_groupings.proofs.Unsigned.{u64_outcome, u64_sums, u64_places, u64_reductions}
 use Rattle.pts_groupings.proofs.laws.unsigned_sums_are_left_folds.Goals as goal
+
+pub returns-clause-outcome : goal.returns-clause-outcome
+returns-clause-outcome c = u64_outcome
 
 pub returns-clause-sums : goal.returns-clause-sums
 returns-clause-sums c = u64_sums
