@@ -1,0 +1,15 @@
+pub mod Trees
+pub mod Chunks
+pub mod Throws
+pub mod Orders
+pub mod Sums
+pub mod Reductions
+pub mod Places
+pub mod Scans
+pub mod Totals
+pub mod Free
+pub mod Accumulators
+pub mod LeftFolds
+pub mod Unsigned
+pub mod Single
+pub mod Signed
