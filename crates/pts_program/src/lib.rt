@@ -11,8 +11,6 @@ mod lists;
 mod program;
 mod promises;
 mod standing;
-#[cfg(test)]
-mod tests;
 
 pub use builder::build;
 pub use fault::BuildFault;
