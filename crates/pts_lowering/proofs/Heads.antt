@@ -25,7 +25,7 @@ use Rattle.pts_points.proofs.Each.{Each, front, back}
 use Rattle.pts_points.proofs.Interiors.{Stays, each_stays}
 use Rattle.pts_points.proofs.SoundItems.{known_number, loop_short, step_right}
 use Rattle.pts_lowering.specs.Fitting.{HasClauseIndex, HasInitialIndex, IsHead, IsIndex}
-use Rattle.pts_lowering.specs.Forms.{kind_at}
+use Rattle.pts_points.specs.Points.{kind_at}
 use Rattle.pts_lowering.proofs.Cells.{cell_word}
 
 -- ---- values

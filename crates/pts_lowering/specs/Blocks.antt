@@ -71,7 +71,7 @@ block_piece item xs =
       blocks =
           λ at.
           let inside : Numbers = record at { blocks = at.blocks + 1 } in
-          record { item = item; body = each xs inside } ∷ inner xs inside;
+          record { item = item; first_point = at.points; points = (total xs).points; body = each xs inside } ∷ inner xs inside;
     }
 
 -- an assignment of this value; the Reads of the value stand before its Write

@@ -28,6 +28,7 @@ use Rattle.pts_rules.specs.Mistyped.{sum_kind}
 use Rattle.pts_rules.proofs.Tasks.{task_statements}
 use Rattle.pts_starts.specs.Starts.{value_of_val, value_with}
 use Rattle.pts_points.specs.Lines.{array_at}
+use Rattle.pts_points.specs.Points.{kind_at}
 use Rattle.pts_lowering.specs.declared.forms.CellRange.{CellRange}
 use Rattle.pts_lowering.specs.declared.forms.CellIndex.{CellIndex}
 use Rattle.pts_lowering.specs.declared.forms.Operation.{Operation}
@@ -66,10 +67,6 @@ function_at scope name = unwrap_or (function_number scope name) 0
 abbrev pub operation_of : Scope → Op → Operation
 operation_of scope (ops.Table op) = operation_forms.Table op
 operation_of scope (ops.Name name) = operation_forms.Function (function_at scope name)
-
--- the kind of an array's elements, likewise
-abbrev pub kind_at : Scope → Name → Kind
-kind_at scope name = unwrap_or (kind_of_array scope name) kinds.U64
 
 -- the kind of a sum or a scan
 abbrev pub kind_of_sum : Scope → call.Call → Kind

@@ -106,10 +106,16 @@ fn lower_block(
     ensures blocks { OnOk result (blocks.new ≡ blocks.old ++ (spec.block_of item block.now).blocks at.old) }
 {
     let number = at.blocks;
+    let first_point = at.points;
     at.blocks = more(number, 1)?;
     let mut inside = Items::new(alloc);
     let body = lower_tasks(alloc, item, block.body.as_slice(), at, &mut inside)?;
-    blocks.push(LoweredBlock { item, body })?;
+    blocks.push(LoweredBlock {
+        item,
+        first_point,
+        points: at.points - first_point,
+        body,
+    })?;
     blocks.append(inside)?;
     Ok(LoweredTask::Block(number))
 }

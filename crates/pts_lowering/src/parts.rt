@@ -5,6 +5,7 @@ ghost use Rattle.pts_tree.specs.Spelling.{if_there};
 ghost use Rattle.pts_rules.specs.Known as known;
 ghost use Rattle.pts_starts.specs.Starts as starts;
 ghost use Rattle.pts_points.specs.Inside.{HasRoom};
+ghost use Rattle.pts_points.specs.Points as points;
 ghost use Rattle.pts_lowering.specs.Fitting.{IsIndex, HasNumbers, IsRange, IsWord};
 ghost use Rattle.pts_lowering.specs.Forms as spec;
 
@@ -147,7 +148,7 @@ pub fn lower_optional_val(scope: &Scope, kind: Kind, val: &Option<Val>) -> Optio
 
 /// The kind of an array's elements.
 pub fn kind_at(scope: &Scope, name: &Name) -> Kind
-    ensures { result ≡ spec.kind_at scope.now name.now }
+    ensures { result ≡ points.kind_at scope.now name.now }
 {
     kind_of_array(scope, name).unwrap_or(Kind::U64)
 }

@@ -29,5 +29,9 @@ pub enum LoweredTask {
 #[derive(Debug, Drop)]
 pub struct LoweredBlock {
     pub item: u32,
+    /// How many points of the item stand before those of the block.
+    pub first_point: u32,
+    /// How many points the block has, those of inner blocks included.
+    pub points: u32,
     pub body: Items<LoweredTask>,
 }
