@@ -14,10 +14,10 @@ use Rattle.pts_run.specs.declared.run.WriteEnd.TheVariants as ends
 use Rattle.pts_run.specs.declared.status.Status.TheVariants as status
 use Rattle.pts_run.specs.declared.words.Command.{Command}
 use Rattle.pts_run.specs.declared.words.Command.TheVariants as commands
-use Rattle.pts_run.specs.Acceptance.{IsAccepted, Rejects}
+use Rattle.pts_run.specs.Acceptance.{IsAccepted, IsRunnable}
 use Rattle.pts_run.specs.declared.answer.Finish.{Finish}
 use Rattle.pts_run.specs.declared.answer.Finish.TheVariants as finishes
-use Rattle.pts_run.specs.Output.{Reads, Accepts, Refuses, RejectsFor, Takes, IsOutput, IsWholeText, IsAsScriptSays, Wrote, WrotePart, script_limit}
+use Rattle.pts_run.specs.Output.{Reads, Accepts, AcceptsToRun, Refuses, RejectsFor, Takes, IsOutput, IsWholeText, IsAsScriptSays, Wrote, WrotePart, script_limit}
 use Rattle.pts_run.specs.Text.{accepted_line, refusal_line}
 use Rattle.pts_run.specs.Writing.{WritesRun, WritesRunPart, WritesText, Ends, finished, status_of}
 
@@ -41,15 +41,15 @@ leaves_by command bytes whole finish (Ok x) old new is h = (whole, is, h)
 leaves_by command bytes whole finish (Err e) old new is h = tt
 
 ran_by : {T : Type 0} (pool : Pool) (bytes : List ℕ) (made : Lists) (written : Result T WriteEnd) (old new : Option (List ℕ))
-    → Accepts bytes made → OnOk written (WritesRun pool made old new)
+    → AcceptsToRun bytes made → OnOk written (WritesRun pool made old new)
     → IfOk (finished finishes.Done written) (λ f. (text : List ℕ) × IsOutput (commands.Run pool) bytes (status_of (Ok f)) text × Appends old new text)
 ran_by pool bytes made (Ok x) old new accepts ran = (ran.text, (made, accepts, ran.is_text), ran.appends)
 ran_by pool bytes made (Err e) old new accepts ran = tt
 
-pub run_ends : {T : Type 0} (pool : Pool) (bytes : List ℕ) (script : Script) (made : Lists) (written : Result T WriteEnd) (old new : Option (List ℕ)) → Reads bytes script → IsAccepted script made
+pub run_ends : {T : Type 0} (pool : Pool) (bytes : List ℕ) (script : Script) (made : Lists) (written : Result T WriteEnd) (old new : Option (List ℕ)) → Reads bytes script → IsRunnable script made
     → OnOk written (WritesRun pool made old new) → WritesRunPart pool made old new → Ends (commands.Run pool) bytes (finished finishes.Done written) old new
-run_ends pool bytes script made written old new reads accepted whole part =
-    let accepts : Accepts bytes made = record { script = script; reads = reads; accepted = accepted } in
+run_ends pool bytes script made written old new reads runnable whole part =
+    let accepts : AcceptsToRun bytes made = record { script = script; reads = reads; runnable = runnable } in
     record {
       leaves = ran_by pool bytes made written old new accepts whole;
       part = (part.text, inr (inl (part.whole, (made, accepts, part.is_text), part.starts)), part.appends);
@@ -78,12 +78,17 @@ refusal_ends command bytes reason written old new refuses h = record {
   part = (h.part.0, inr (inr (reason, refuses, h.part.1)), h.part.2);
 }
 
--- what a script is not run for, the command refuses it for
-pub refused : (command : Command) (bytes : List ℕ) (script : Script) (reason : Refusal) → RejectsFor command bytes reason → Rejects script reason → Refuses command bytes reason
-refused command bytes script refusals.TooLong h r = absurd r
-refused command bytes script (refusals.Syntax fault) h r = absurd r
-refused command bytes script (refusals.Build fault) h r = h
-refused command bytes script (refusals.Later item) h r = h
+-- what a script is not taken for, the command refuses it for
+pub refused : (command : Command) (bytes : List ℕ) (reason : Refusal) → RejectsFor command bytes reason → Refuses command bytes reason
+refused (commands.Run pool) bytes refusals.TooLong h = absurd h.2
+refused commands.Check bytes refusals.TooLong h = absurd h.2
+refused commands.Print bytes refusals.TooLong h = absurd h
+refused (commands.Run pool) bytes (refusals.Syntax fault) h = absurd h.2
+refused commands.Check bytes (refusals.Syntax fault) h = absurd h.2
+refused commands.Print bytes (refusals.Syntax fault) h = absurd h
+refused command bytes (refusals.Build fault) h = h
+refused command bytes (refusals.Later item) h = h
+refused command bytes (refusals.Conflict conflict) h = h
 
 -- for want of memory nothing is written
 pub nothing_ends : (command : Command) (bytes : List ℕ) (old : Option (List ℕ)) → Ends command bytes (Err ends.NoMemory) old old

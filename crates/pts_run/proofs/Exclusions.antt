@@ -1,19 +1,25 @@
 -- No command takes bytes that it refuses, and it refuses bytes for one reason.
-use Rattle.std.proofs.Common.{◌⊎◌, inl, inr, ◌≡◌, ◌<◌, ℕ, Some, List, length, refl, sym, ap, subst, ◌∙◌, arith}
+use Rattle.std.proofs.Common.{◌⊎◌, inl, inr, ◌≡◌, ◌<◌, ℕ, Some, None, List, length, refl, sym, ap, subst, ◌∙◌, arith}
 use Rattle.pts_tree.specs.declared.script.Script.{Script}
 use Rattle.pts_syntax.specs.declared.reading.SyntaxFault.{SyntaxFault}
 use Rattle.pts_syntax.proofs.OneFault.{same_script, no_fault_of_a_script, same_fault}
 use Rattle.pts_program.specs.declared.lists.Lists.{Lists}
+use Rattle.pts_program.specs.Faults.{IsSound}
+use Rattle.pts_program.specs.Lists.{IsProgram, lists_of}
 use Rattle.pts_program.proofs.FirstFaults.{fault-or_sound, fault-unique}
+use Rattle.pts_conflict.specs.Conflicts.{IsClear}
+use Rattle.pts_conflict.proofs.OneConflict.{none_least, one_conflict}
 use Rattle.pts_eval.specs.Works.{first_later}
+use Rattle.pts_run.specs.declared.refusal.Conflict.{Conflict}
 use Rattle.pts_run.specs.declared.refusal.Refusal.{Refusal}
 use Rattle.pts_run.specs.declared.refusal.Refusal.TheVariants as refusals
 use Rattle.pts_run.specs.declared.status.Status.{Status}
 use Rattle.pts_run.specs.declared.status.Status.TheVariants as status
 use Rattle.pts_run.specs.declared.words.Command.{Command}
 use Rattle.pts_run.specs.declared.words.Command.TheVariants as commands
-use Rattle.pts_run.specs.Acceptance.{IsAccepted, Rejects}
-use Rattle.pts_run.specs.Output.{Reads, Takes, Accepts, FailsBy, IsAsScriptSays, IsDecided, IsRejected, RejectsFor, Refuses}
+use Rattle.pts_run.specs.Acceptance.{HasConflict, IsAccepted, IsLater, IsRunnable, Rejects, RejectsRun, array_name}
+use Rattle.pts_run.proofs.Sizes.{spelled}
+use Rattle.pts_run.specs.Output.{Reads, Takes, FailsBy, IsAsScriptSays, IsDecided, RejectsFor, Refuses}
 
 -- ---- scripts and faults
 
@@ -23,41 +29,94 @@ read_of (commands.Run pool) bytes h = (h.1.script, h.1.reads)
 read_of commands.Check bytes h = (h.1.script, h.1.reads)
 read_of commands.Print bytes h = h
 
--- ---- scripts that are not run
+-- ---- scripts that are not taken
 
-same_cause : (script : Script) (reason other : Refusal) → Rejects script reason → Rejects script other → reason ≡ other
-same_cause script (refusals.Build fault) (refusals.Build another) h g = ap (λ f. refusals.Build f) (fault-unique script h.0 g.0 fault another h.1 g.1).1
-same_cause script (refusals.Build fault) (refusals.Later item) h l = absurd (fault-or_sound script h.0 fault h.1 l.0)
-same_cause script (refusals.Later item) (refusals.Build fault) l h = absurd (fault-or_sound script h.0 fault h.1 l.0)
-same_cause script (refusals.Later item) (refusals.Later other) l m = let e : Some item ≡ Some other = sym l.1 ∙ m.1 in let same : item ≡ other = cc in ap (λ n. refusals.Later n) same
-same_cause script refusals.TooLong other h g = absurd h
-same_cause script (refusals.Syntax fault) other h g = absurd h
-same_cause script (refusals.Build fault) refusals.TooLong h g = absurd g
-same_cause script (refusals.Build fault) (refusals.Syntax another) h g = absurd g
-same_cause script (refusals.Later item) refusals.TooLong h g = absurd g
-same_cause script (refusals.Later item) (refusals.Syntax another) h g = absurd g
+-- the lists of a script that breaks no rule are a program
+program_of : (bytes : List ℕ) (script : Script) → Reads bytes script → IsSound script → IsProgram (lists_of script)
+program_of bytes script reads sound = record { script = script; sound = sound; spelled = spelled bytes script reads.short reads.parsed; made = refl }
+
+same_conflict : (bytes : List ℕ) (script : Script) (x y : Conflict) → Reads bytes script → HasConflict script x → HasConflict script y → x ≡ y
+same_conflict bytes script x y reads h g =
+    let pair = one_conflict (lists_of script) (program_of bytes script reads h.sound) x.pair y.pair h.conflict.least g.conflict.least in
+    let name = h.conflict.name ∙ ap (λ z. array_name script z.array) pair ∙ sym g.conflict.name in
+    λ i. record { array = name i; pair = pair i }
+
+same_cause : (bytes : List ℕ) (script : Script) (reason other : Refusal) → Reads bytes script → Rejects script reason → Rejects script other → reason ≡ other
+same_cause bytes script (refusals.Build fault) (refusals.Build another) reads h g = ap (λ f. refusals.Build f) (fault-unique script h.0 g.0 fault another h.1 g.1).1
+same_cause bytes script (refusals.Build fault) (refusals.Conflict x) reads h c = absurd (fault-or_sound script h.0 fault h.1 c.sound)
+same_cause bytes script (refusals.Conflict x) (refusals.Build fault) reads c h = absurd (fault-or_sound script h.0 fault h.1 c.sound)
+same_cause bytes script (refusals.Conflict x) (refusals.Conflict y) reads h g = ap (λ c. refusals.Conflict c) (same_conflict bytes script x y reads h g)
+same_cause bytes script refusals.TooLong other reads h g = absurd h
+same_cause bytes script (refusals.Syntax fault) other reads h g = absurd h
+same_cause bytes script (refusals.Later item) other reads h g = absurd h
+same_cause bytes script (refusals.Build fault) refusals.TooLong reads h g = absurd g
+same_cause bytes script (refusals.Build fault) (refusals.Syntax another) reads h g = absurd g
+same_cause bytes script (refusals.Build fault) (refusals.Later item) reads h g = absurd g
+same_cause bytes script (refusals.Conflict x) refusals.TooLong reads h g = absurd g
+same_cause bytes script (refusals.Conflict x) (refusals.Syntax another) reads h g = absurd g
+same_cause bytes script (refusals.Conflict x) (refusals.Later item) reads h g = absurd g
+
+built_or_later : (script : Script) (item : ℕ) → first_later (lists_of script) ≡ None → IsLater script item → ⊥
+built_or_later script item none l = let e : None ≡ Some item = sym none ∙ l.1 in cc
+
+same_run_cause : (bytes : List ℕ) (script : Script) (reason other : Refusal) → Reads bytes script → RejectsRun script reason → RejectsRun script other → reason ≡ other
+same_run_cause bytes script (refusals.Build fault) (refusals.Build another) reads h g = ap (λ f. refusals.Build f) (fault-unique script h.0 g.0 fault another h.1 g.1).1
+same_run_cause bytes script (refusals.Build fault) (refusals.Later item) reads h l = absurd (fault-or_sound script h.0 fault h.1 l.0)
+same_run_cause bytes script (refusals.Build fault) (refusals.Conflict x) reads h c = absurd (fault-or_sound script h.0 fault h.1 c.0.sound)
+same_run_cause bytes script (refusals.Later item) (refusals.Build fault) reads l h = absurd (fault-or_sound script h.0 fault h.1 l.0)
+same_run_cause bytes script (refusals.Later item) (refusals.Later other) reads l m = let e : Some item ≡ Some other = sym l.1 ∙ m.1 in let same : item ≡ other = cc in ap (λ n. refusals.Later n) same
+same_run_cause bytes script (refusals.Later item) (refusals.Conflict x) reads l c = absurd (built_or_later script item c.1 l)
+same_run_cause bytes script (refusals.Conflict x) (refusals.Build fault) reads c h = absurd (fault-or_sound script h.0 fault h.1 c.0.sound)
+same_run_cause bytes script (refusals.Conflict x) (refusals.Later item) reads c l = absurd (built_or_later script item c.1 l)
+same_run_cause bytes script (refusals.Conflict x) (refusals.Conflict y) reads h g = ap (λ c. refusals.Conflict c) (same_conflict bytes script x y reads h.0 g.0)
+same_run_cause bytes script refusals.TooLong other reads h g = absurd h
+same_run_cause bytes script (refusals.Syntax fault) other reads h g = absurd h
+same_run_cause bytes script (refusals.Build fault) refusals.TooLong reads h g = absurd g
+same_run_cause bytes script (refusals.Build fault) (refusals.Syntax another) reads h g = absurd g
+same_run_cause bytes script (refusals.Later item) refusals.TooLong reads h g = absurd g
+same_run_cause bytes script (refusals.Later item) (refusals.Syntax another) reads h g = absurd g
+same_run_cause bytes script (refusals.Conflict x) refusals.TooLong reads h g = absurd g
+same_run_cause bytes script (refusals.Conflict x) (refusals.Syntax another) reads h g = absurd g
 
 -- a script that is accepted is not rejected
 not_both : (script : Script) (lists : Lists) (reason : Refusal) → IsAccepted script lists → ¬ Rejects script reason
 not_both script lists (refusals.Build fault) a h = fault-or_sound script h.0 fault h.1 a.sound
-not_both script lists (refusals.Later item) a l = let e : first_later lists ≡ Some item = ap first_later a.made ∙ l.1 in let none = a.built in absurd (cc)
+not_both script lists (refusals.Conflict x) a h = none_least (lists_of script) x.pair (subst IsClear a.made a.clear) h.conflict.least
+not_both script lists (refusals.Later item) a h = h
 not_both script lists refusals.TooLong a h = h
 not_both script lists (refusals.Syntax fault) a h = h
 
-accepted_or_rejected : (bytes : List ℕ) (reason : Refusal) → (lists : Lists) × Accepts bytes lists → IsRejected bytes reason → ⊥
-accepted_or_rejected bytes reason a r =
-    let same = same_script bytes r.0 a.1.script r.1.parsed a.1.reads.parsed in
-    not_both a.1.script a.0 reason a.1.accepted (subst (λ (s : Script). Rejects s reason) same r.2)
+-- and one that is run is not refused
+not_both_run : (script : Script) (lists : Lists) (reason : Refusal) → IsRunnable script lists → ¬ RejectsRun script reason
+not_both_run script lists (refusals.Build fault) a h = fault-or_sound script h.0 fault h.1 a.accepted.sound
+not_both_run script lists (refusals.Conflict x) a h = none_least (lists_of script) x.pair (subst IsClear a.accepted.made a.accepted.clear) h.0.conflict.least
+not_both_run script lists (refusals.Later item) a l = built_or_later script item (sym (ap first_later a.accepted.made) ∙ a.built) l
+not_both_run script lists refusals.TooLong a h = h
+not_both_run script lists (refusals.Syntax fault) a h = h
 
 taken_or_rejected : (command : Command) (bytes : List ℕ) (reason : Refusal) → Takes command bytes → RejectsFor command bytes reason → ⊥
-taken_or_rejected (commands.Run pool) bytes reason h r = accepted_or_rejected bytes reason h r
-taken_or_rejected commands.Check bytes reason h r = accepted_or_rejected bytes reason h r
+taken_or_rejected (commands.Run pool) bytes reason a r =
+    let same = same_script bytes r.0 a.1.script r.1.parsed a.1.reads.parsed in
+    not_both_run a.1.script a.0 reason a.1.runnable (subst (λ (s : Script). RejectsRun s reason) same r.2)
+taken_or_rejected commands.Check bytes reason a r =
+    let same = same_script bytes r.0 a.1.script r.1.parsed a.1.reads.parsed in
+    not_both a.1.script a.0 reason a.1.accepted (subst (λ (s : Script). Rejects s reason) same r.2)
 taken_or_rejected commands.Print bytes reason h r = absurd r
 
-rejected_script : (command : Command) (bytes : List ℕ) (reason : Refusal) → RejectsFor command bytes reason → IsRejected bytes reason
-rejected_script (commands.Run pool) bytes reason r = r
-rejected_script commands.Check bytes reason r = r
+-- what is rejected is a script
+rejected_script : (command : Command) (bytes : List ℕ) (reason : Refusal) → RejectsFor command bytes reason → (script : Script) × Reads bytes script
+rejected_script (commands.Run pool) bytes reason r = (r.0, r.1)
+rejected_script commands.Check bytes reason r = (r.0, r.1)
 rejected_script commands.Print bytes reason r = absurd r
+
+one_cause : (command : Command) (bytes : List ℕ) (reason other : Refusal) → RejectsFor command bytes reason → RejectsFor command bytes other → reason ≡ other
+one_cause (commands.Run pool) bytes reason other r t =
+    let same = same_script bytes t.0 r.0 t.1.parsed r.1.parsed in
+    same_run_cause bytes r.0 reason other r.1 r.2 (subst (λ (s : Script). RejectsRun s other) same t.2)
+one_cause commands.Check bytes reason other r t =
+    let same = same_script bytes t.0 r.0 t.1.parsed r.1.parsed in
+    same_cause bytes r.0 reason other r.1 r.2 (subst (λ (s : Script). Rejects s other) same t.2)
+one_cause commands.Print bytes reason other r t = absurd r
 
 -- ---- one reason
 
@@ -72,6 +131,7 @@ why command bytes refusals.TooLong r = too_long r
 why command bytes (refusals.Syntax fault) r = faulty fault r
 why command bytes (refusals.Build fault) r = rejected (refusals.Build fault) r
 why command bytes (refusals.Later item) r = rejected (refusals.Later item) r
+why command bytes (refusals.Conflict conflict) r = rejected (refusals.Conflict conflict) r
 
 pub excludes : (command : Command) (bytes : List ℕ) (reason : Refusal) → Takes command bytes → Refuses command bytes reason → ⊥
 excludes command bytes reason h r = by_why reason (why command bytes reason r)
@@ -92,11 +152,7 @@ one_by command bytes _ _ (faulty fault f) (rejected reason r) =
 one_by command bytes _ _ (rejected reason r) (too_long i) = let s = rejected_script command bytes reason r in absurd (omega (arith, i, s.1.short))
 one_by command bytes _ _ (rejected reason r) (faulty fault f) =
     let s = rejected_script command bytes reason r in absurd (f.known (no_fault_of_a_script bytes s.0 fault s.1.parsed f.explains))
-one_by command bytes _ _ (rejected reason r) (rejected other t) =
-    let one = rejected_script command bytes reason r in
-    let two = rejected_script command bytes other t in
-    let same = same_script bytes two.0 one.0 two.1.parsed one.1.parsed in
-    same_cause one.0 reason other one.2 (subst (λ (s : Script). Rejects s other) same two.2)
+one_by command bytes _ _ (rejected reason r) (rejected other t) = one_cause command bytes reason other r t
 
 pub one_reason : (command : Command) (bytes : List ℕ) (reason other : Refusal) → Refuses command bytes reason → Refuses command bytes other → reason ≡ other
 one_reason command bytes reason other r s = one_by command bytes reason other (why command bytes reason r) (why command bytes other s)

@@ -15,7 +15,7 @@ use Rattle.pts_run.specs.declared.refusal.Refusal.{Refusal}
 use Rattle.pts_run.specs.declared.refusal.Refusal.TheVariants as refusals
 use Rattle.pts_run.specs.declared.words.Command.{Command}
 use Rattle.pts_run.specs.declared.words.Command.TheVariants as commands
-use Rattle.pts_run.specs.Acceptance.{IsAccepted, Rejects}
+use Rattle.pts_run.specs.Acceptance.{IsAccepted, IsRunnable, Rejects, RejectsRun}
 use Rattle.pts_run.specs.Text.{accepted_line, refusal_line, text_of}
 
 -- the most bytes of a script
@@ -29,11 +29,17 @@ pub record Reads (bytes : List ℕ) (script : Script) : Type 0 where
   pub short : length bytes ≤ script_limit
   pub parsed : IsParsed bytes script
 
--- the bytes are a script that is run, and make these lists
+-- the bytes are a script that is accepted, and make these lists
 pub record Accepts (bytes : List ℕ) (made : Lists) : Type 0 where
   pub script : Script
   pub reads : Reads bytes script
   pub accepted : IsAccepted script made
+
+-- the bytes are a script that is run, and make these lists
+pub record AcceptsToRun (bytes : List ℕ) (made : Lists) : Type 0 where
+  pub script : Script
+  pub reads : Reads bytes script
+  pub runnable : IsRunnable script made
 
 -- the bytes are within the limit, and no script for this fault of the text
 pub record FailsBy (bytes : List ℕ) (fault : SyntaxFault) : Type 0 where
@@ -41,14 +47,10 @@ pub record FailsBy (bytes : List ℕ) (fault : SyntaxFault) : Type 0 where
   pub explains : Explains bytes fault
   pub known : fault.kind ≢ fault_kinds.NoMemory
 
--- the bytes are a script that is not run for this reason
-abbrev pub IsRejected : List ℕ → Refusal → Type 0
-IsRejected bytes reason = (script : Script) × Reads bytes script × Rejects script reason
-
--- the same, under a command that asks for a script that is run; printing does not
+-- the bytes are a script that the command does not take for this reason; printing takes every script
 abbrev pub RejectsFor : Command → List ℕ → Refusal → Type 0
-RejectsFor (commands.Run pool) bytes reason = IsRejected bytes reason
-RejectsFor commands.Check bytes reason = IsRejected bytes reason
+RejectsFor (commands.Run pool) bytes reason = (script : Script) × Reads bytes script × RejectsRun script reason
+RejectsFor commands.Check bytes reason = (script : Script) × Reads bytes script × Rejects script reason
 RejectsFor commands.Print bytes reason = ⊥
 
 -- the command refuses the bytes for this
@@ -59,7 +61,7 @@ Refuses command bytes reason = RejectsFor command bytes reason
 
 -- the command takes the bytes
 abbrev pub Takes : Command → List ℕ → Type 0
-Takes (commands.Run pool) bytes = (made : Lists) × Accepts bytes made
+Takes (commands.Run pool) bytes = (made : Lists) × AcceptsToRun bytes made
 Takes commands.Check bytes = (made : Lists) × Accepts bytes made
 Takes commands.Print bytes = (script : Script) × Reads bytes script
 
@@ -80,13 +82,13 @@ pub record IsWholeRunText (pool : Pool) (lists : Lists) (text : List ℕ) : Type
 
 -- the whole text that the command gives for bytes that it takes
 abbrev pub IsWholeText : Command → List ℕ → List ℕ → Type 0
-IsWholeText (commands.Run pool) bytes text = (made : Lists) × Accepts bytes made × IsWholeRunText pool made text
+IsWholeText (commands.Run pool) bytes text = (made : Lists) × AcceptsToRun bytes made × IsWholeRunText pool made text
 IsWholeText commands.Check bytes text = (made : Lists) × Accepts bytes made × (text ≡ accepted_line)
 IsWholeText commands.Print bytes text = (script : Script) × Reads bytes script × (text ≡ canonical script)
 
 -- the same, or under `run` the text of a run to which more can be added
 abbrev pub IsFrontText : Command → List ℕ → List ℕ → Type 0
-IsFrontText (commands.Run pool) bytes text = (made : Lists) × Accepts bytes made × IsRunText pool made text
+IsFrontText (commands.Run pool) bytes text = (made : Lists) × AcceptsToRun bytes made × IsRunText pool made text
 IsFrontText commands.Check bytes text = IsWholeText commands.Check bytes text
 IsFrontText commands.Print bytes text = IsWholeText commands.Print bytes text
 

@@ -47,9 +47,20 @@ abbrev pub at_position : Option ℕ → List ℕ
 at_position None = []
 at_position (Some position) = codes " position " ++ decimal position
 
+-- the cell of an array
+abbrev pub cell_text : List ℕ → ℕ → List ℕ
+cell_text array index = codes " cell " ++ array ++ codes "[" ++ decimal index ++ codes "]"
+
+-- an evaluation: its position and its point
+abbrev pub evaluation : ℕ → ℕ → List ℕ
+evaluation position point = codes " position " ++ decimal position ++ codes " point " ++ decimal point
+
 -- the line of a refusal
 abbrev pub refusal_line : Refusal → List ℕ
 refusal_line refusals.TooLong = codes "refused too_long" ++ line_feed
 refusal_line (refusals.Syntax fault) = codes "refused " ++ kind_name fault.kind ++ codes " at " ++ decimal fault.at ++ line_feed
 refusal_line (refusals.Build fault) = codes "refused " ++ rule_name fault ++ codes " item " ++ decimal (item_of fault) ++ at_position (position_of fault) ++ line_feed
 refusal_line (refusals.Later item) = codes "refused later item " ++ decimal item ++ line_feed
+refusal_line (refusals.Conflict x) =
+    codes "refused conflict item " ++ decimal x.pair.item ++ cell_text x.array x.pair.cell
+    ++ evaluation x.pair.p x.pair.k ++ evaluation x.pair.q x.pair.m ++ line_feed

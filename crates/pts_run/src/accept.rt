@@ -1,18 +1,20 @@
-//! Which scripts are run: those that break no rule, and whose statements are all built.
+//! Which scripts are run: those that break no rule and have no conflict, and whose statements are all built.
 
 ghost use Rattle.std.specs.Prelude.{◌≡◌, Err, IfOk};
 ghost use Rattle.pts_syntax.specs.Syntax.{IsSpelled};
 ghost use Rattle.pts_run.specs.declared.refusal.Refusal.{Refusal as Reason};
+ghost use Rattle.pts_conflict.specs.Conflicts.{IsClear};
 ghost use Rattle.pts_run.specs.Acceptance as spec;
 
-use crate::refusal::Refusal;
+use crate::refusal::{Conflict, Refusal};
+use pts_conflict::{ClearFault, Cleared, Pair, clear};
 use pts_eval::later;
 use pts_program::{BuildFault, Program, build};
-use pts_tree::Script;
-use std::alloc::Global;
+use pts_tree::{Item, Name, Script};
+use std::alloc::{AllocError, Global};
 
 /// Why there is no program.
-#[derive(Clone, Copy, Debug, PartialEq, Eq)]
+#[derive(Debug, Drop)]
 pub enum Rejection {
     Refused(Refusal),
     NoMemory,
@@ -32,15 +34,77 @@ impl From<BuildFault> for Rejection {
     }
 }
 
-/// The program of a script, or why it is not run.
-pub fn accept(alloc: Global, script: &Script) -> Result<Program, Rejection>
+impl From<AllocError> for Rejection {
+    ghost use Rattle.std.specs.Prelude.{◌≡◌};
+    ghost use Rattle.pts_run.specs.declared.accept.Rejection.TheVariants as rejections;
+
+    ghost from_gives = { λ _ rejection. rejection ≡ rejections.NoMemory };
+
+    fn from(_: AllocError) -> Self {
+        Rejection::NoMemory
+    }
+}
+
+// The name in the declaration of the array with this number; empty where there is no such array.
+fn array_name(script: &Script, number: u32) -> &str
+    ensures { result.now ≡ spec.array_name script.now number }
+{
+    let mut left = number;
+    for item in script.items.as_slice() {
+        if let Item::Array(array) = item {
+            if left == 0 {
+                return array.name.as_str();
+            }
+            left -= 1;
+        }
+    }
+    ""
+}
+
+fn conflict_of(alloc: Global, script: &Script, pair: Pair) -> Result<Conflict, AllocError>
+    ensures { IfOk result (λ conflict. (conflict.pair ≡ pair) × (conflict.array ≡ spec.array_name script.now pair.array)) }
+{
+    let name = array_name(script, pair.array).to_string(alloc)?;
+    Ok(Conflict {
+        array: Name::new(name),
+        pair,
+    })
+}
+
+// The program, if it has no conflict.
+fn clear_program(alloc: Global, script: &Script, program: Program) -> Result<Cleared, Rejection>
+    ensures cleared { IfOk result (λ cleared. (cleared ≡ program) × IsClear program) }
+    ensures rejected { (reason : Reason) → result ≡ Err (Rejection.Refused reason) → spec.IsConflictOf script.now program reason }
+{
+    match clear(alloc, program) {
+        Ok(cleared) => Ok(cleared),
+        Err(ClearFault::Conflict(pair)) => {
+            let conflict = conflict_of(alloc, script, pair)?;
+            Err(Rejection::Refused(Refusal::Conflict(conflict)))
+        }
+        Err(ClearFault::NoMemory) => Err(Rejection::NoMemory),
+    }
+}
+
+/// The program of a script that breaks no rule and has no conflict, or why there is none.
+pub fn accept(alloc: Global, script: &Script) -> Result<Cleared, Rejection>
     requires { IsSpelled script.now }
     ensures accepted { IfOk result (spec.IsAccepted script.now) }
     ensures rejected { (reason : Reason) → result ≡ Err (Rejection.Refused reason) → spec.Rejects script.now reason }
 {
     let program = build(alloc, script)?;
+    clear_program(alloc, script, program)
+}
+
+/// The same of a script that is run, all of whose statements are built, or why it is not run.
+pub fn accept_to_run(alloc: Global, script: &Script) -> Result<Cleared, Rejection>
+    requires { IsSpelled script.now }
+    ensures accepted { IfOk result (spec.IsRunnable script.now) }
+    ensures rejected { (reason : Reason) → result ≡ Err (Rejection.Refused reason) → spec.RejectsRun script.now reason }
+{
+    let program = build(alloc, script)?;
     match later(&program) {
         Some(item) => Err(Rejection::Refused(Refusal::Later(item))),
-        None => Ok(program),
+        None => clear_program(alloc, script, program),
     }
 }

@@ -9,7 +9,7 @@ ghost use Rattle.pts_run.specs.declared.refusal.Refusal.{Refusal as Reason};
 ghost use Rattle.pts_run.specs.Writing as spec;
 ghost use Rattle.pts_run.specs.Writing.{Ends, IsCounted};
 
-use crate::accept::{Rejection, accept};
+use crate::accept::{Rejection, accept, accept_to_run};
 use crate::refusal::Refusal;
 use crate::run::{WriteEnd, run_program, write_accepted, write_canonical, write_refusal};
 use crate::words::Command;
@@ -55,8 +55,11 @@ fn run_script<K: Sink>(
     ensures ends { (bytes : List ℕ) → Reads bytes script.now → Ends (commands.Run pool) bytes result (K.written sink.old) (K.written sink.new) }
     ensures counted { IsCounted result (K.faults sink.old) (K.faults sink.new) }
 {
-    match accept(alloc, script) {
-        Ok(program) => finished(Finish::Done, run_program(alloc, pool, &program, sink)),
+    match accept_to_run(alloc, script) {
+        Ok(cleared) => {
+            let written = run_program(alloc, pool, cleared.program(), sink);
+            finished(Finish::Done, written)
+        }
         Err(rejection) => reject(alloc, rejection, sink),
     }
 }
@@ -67,7 +70,7 @@ fn check_script<K: Sink>(alloc: Global, script: &Script, sink: &mut K) -> Result
     ensures counted { IsCounted result (K.faults sink.old) (K.faults sink.new) }
 {
     match accept(alloc, script) {
-        Ok(_program) => finished(Finish::Done, write_accepted(sink)),
+        Ok(_cleared) => finished(Finish::Done, write_accepted(sink)),
         Err(rejection) => reject(alloc, rejection, sink),
     }
 }

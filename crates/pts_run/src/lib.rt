@@ -16,7 +16,7 @@ mod top;
 mod words;
 
 pub use laws::{one_reason, takes_or_refuses};
-pub use refusal::Refusal;
+pub use refusal::{Conflict, Refusal};
 pub use status::Status;
 pub use top::run_words;
 pub use words::{Command, read_words};

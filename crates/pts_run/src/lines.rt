@@ -3,9 +3,9 @@
 ghost use Rattle.std.specs.Prelude.{◌≡◌, ◌++◌, OnOk, decimal};
 ghost use Rattle.pts_eval.specs.Runs.{Reduced, Printed};
 ghost use Rattle.pts_run.specs.declared.refusal.Refusal.TheVariants as refusals;
-ghost use Rattle.pts_run.specs.Text.{at_position, line_feed, line_of, spaced, value_text, refusal_line};
+ghost use Rattle.pts_run.specs.Text.{at_position, cell_text, evaluation, line_feed, line_of, spaced, value_text, refusal_line};
 
-use crate::refusal::Refusal;
+use crate::refusal::{Conflict, Refusal};
 use itoa::{Buffer, Integer};
 use pts_program::BuildFault;
 use pts_syntax::SyntaxFault;
@@ -49,6 +49,7 @@ pub fn push_refusal(text: &mut Vec<u8>, refusal: Refusal) -> Result<(), AllocErr
         Refusal::Syntax(fault) => push_syntax_fault(text, fault),
         Refusal::Build(fault) => push_build_fault(text, fault),
         Refusal::Later(item) => push_counted(text, b"refused later item ", item),
+        Refusal::Conflict(conflict) => push_conflict(text, &conflict),
     }
 }
 
@@ -73,6 +74,40 @@ fn push_build_fault(text: &mut Vec<u8>, fault: BuildFault) -> Result<(), AllocEr
     push_number(text, fault.item())?;
     push_position(text, fault.position())?;
     text.extend_from_slice(b"\n")
+}
+
+#[tactic(auto, using(std::proofs::lemmas::List::append_assoc))]
+fn push_conflict(text: &mut Vec<u8>, conflict: &Conflict) -> Result<(), AllocError>
+    ensures { OnOk result (text.new.items ≡ text.old.items ++ refusal_line (refusals.Conflict conflict.now)) }
+{
+    let pair = conflict.pair;
+    text.extend_from_slice(b"refused conflict item ")?;
+    push_number(text, pair.item)?;
+    push_cell(text, conflict.array.as_str(), pair.cell)?;
+    push_evaluation(text, pair.p, pair.k)?;
+    push_evaluation(text, pair.q, pair.m)?;
+    text.extend_from_slice(b"\n")
+}
+
+#[tactic(auto, using(std::proofs::lemmas::List::append_assoc))]
+fn push_cell(text: &mut Vec<u8>, array: &str, cell: u32) -> Result<(), AllocError>
+    ensures { OnOk result (text.new.items ≡ text.old.items ++ cell_text array.now cell) }
+{
+    text.extend_from_slice(b" cell ")?;
+    text.extend_from_slice(array.as_bytes())?;
+    text.extend_from_slice(b"[")?;
+    push_number(text, cell)?;
+    text.extend_from_slice(b"]")
+}
+
+#[tactic(auto, using(std::proofs::lemmas::List::append_assoc))]
+fn push_evaluation(text: &mut Vec<u8>, position: u32, point: u32) -> Result<(), AllocError>
+    ensures { OnOk result (text.new.items ≡ text.old.items ++ evaluation position point) }
+{
+    text.extend_from_slice(b" position ")?;
+    push_number(text, position)?;
+    text.extend_from_slice(b" point ")?;
+    push_number(text, point)
 }
 
 // A line of these words and a number.

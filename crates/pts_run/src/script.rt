@@ -17,7 +17,7 @@ use std::alloc::Global;
 const SCRIPT_LIMIT: usize = 1_048_576;
 
 /// Why there is no script.
-#[derive(Clone, Copy, Debug, PartialEq, Eq)]
+#[derive(Debug, Drop)]
 pub enum ScriptFault {
     Refused(Refusal),
     Source,

@@ -6,10 +6,9 @@ use Rattle.pts_run.proofs.answer.run_script.Goals as goal
 pub returns-in-Ok-clause-ends : goal.returns-in-Ok-clause-ends
 returns-in-Ok-clause-ends g c = λ bytes reads.
     rw c.finished.ensures
-    (run_ends c.args.pool bytes c.args.script.now c.in-Ok.program c.run_program.result _ _ reads c.in-Ok.ensures.accepted c.run_program.ensures.whole c.run_program.ensures.part)
+    (run_ends c.args.pool bytes c.args.script.now c.in-Ok.cleared c.run_program.result _ _ reads c.in-Ok.ensures.accepted c.run_program.ensures.whole c.run_program.ensures.part)
 
 pub returns-in-Err-clause-ends : goal.returns-in-Err-clause-ends
 returns-in-Err-clause-ends g c = λ bytes reads.
     c.reject.ensures.ends (commands.Run c.args.pool) bytes (λ reason is.
-    let rejects = c.accept.ensures.rejected reason (c.in-Err.is ∙ ap Err is) in
-    refused (commands.Run c.args.pool) bytes c.args.script.now reason (c.args.script.now, reads, rejects) rejects)
+    refused (commands.Run c.args.pool) bytes reason (c.args.script.now, reads, c.accept_to_run.ensures.rejected reason (c.in-Err.is ∙ ap Err is)))

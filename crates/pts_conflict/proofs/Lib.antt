@@ -1,0 +1,13 @@
+mod CallPairs
+mod Clashes
+mod Clearing
+mod Elements
+mod Firsts
+mod Forking
+mod Laws
+mod Meetings
+mod OneConflict
+mod Opposites
+mod PartPairs
+mod Ranges
+mod TaskPoints

@@ -1,0 +1,49 @@
+//! The first conflict in a call.
+
+ghost use Rattle.std.specs.Prelude.{◌≡◌, ◌<◌, false, length, slice_get, Some};
+ghost use Rattle.pts_conflict.specs.Conflicts as conflicts;
+ghost use Rattle.pts_conflict.specs.Search.{FindsFirst, InCallOf, InSomeCall, rank_of};
+
+use crate::found::{Found, lower};
+use crate::places::points_before;
+use crate::search::{InCall, least_across};
+use pts_lowering::LoweredCall;
+use pts_program::Program;
+use pts_types::Policy;
+
+fn is_loop(program: &Program, call: usize) -> bool
+    requires { call < length program.now.lowered_calls }
+    ensures { result ≡ conflicts.is_loop program.now call }
+{
+    matches!(program.lowered_calls()[call], LoweredCall::Loop(_))
+}
+
+fn least_in(program: &Program, number: u32) -> Option<Found>
+    requires { number < length program.now.calls }
+    ensures { FindsFirst (InCallOf program.now number) rank_of result }
+{
+    program.keeps_its_promises();
+    let call = program.calls()[number as usize];
+    if call.policy == Policy::Seq || call.points == 0 {
+        return None;
+    }
+    let start = points_before(program.points(), call.item) + call.first_point as usize;
+    let points = &program.points()[start..start + call.points as usize];
+    let pairs = InCall {
+        number,
+        call,
+        is_loop: is_loop(program, number as usize),
+    };
+    least_across(&pairs, points, points)
+}
+
+/// The first of the conflicts that are pairs of one call.
+pub fn least_in_calls(program: &Program) -> Option<Found>
+    ensures { FindsFirst (InSomeCall program.now) rank_of result }
+{
+    let mut best = None;
+    for number in 0..program.calls().len() {
+        best = lower(best, least_in(program, number as u32));
+    }
+    best
+}
