@@ -57,4 +57,4 @@ pub data HavePoints (lists : Lists) : List LoweredTask → ℕ → ℕ → Type 
 
 -- the body of a block has the points of the block
 abbrev pub IsInOrder : Lists → LoweredBlock → Type 0
-IsInOrder lists block = HavePoints lists block.body block.first_point (block.first_point + block.points)
+IsInOrder lists x = HavePoints lists x.body x.first_point (x.first_point + x.points)
