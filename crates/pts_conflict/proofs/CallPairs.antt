@@ -1,7 +1,6 @@
 -- The conflicts of a call are pairs of the points that stand together for it.
-use Rattle.std.proofs.Common.{◌≡◌, ◌≢◌, ℕ, zero, suc, ◌+◌, ◌-◌, ◌<◌, ◌≤◌, false, Some, None, Option, List, length, drop, take, slice_get, refl, sym, ap, ◌∙◌, subst, arith}
+use Rattle.std.proofs.Common.{◌≡◌, ◌≢◌, ℕ, ◌+◌, ◌-◌, ◌<◌, ◌≤◌, Some, None, Option, List, length, slice_get, refl, sym, ap, ◌∙◌, subst, arith}
 use Rattle.std.specs.Prelude.{All, IsSomeAnd, slice_range}
-use Rattle.std.specs.List.{Contains}
 use Rattle.std.proofs.lemmas.Option.{slice_get_within}
 use Rattle.pts_types.specs.declared.operation.Policy.TheVariants as policies
 use Rattle.pts_points.specs.declared.point.CallInfo.{CallInfo}
@@ -10,46 +9,42 @@ use Rattle.pts_points.specs.Standings.{HasPoint}
 use Rattle.pts_program.specs.declared.lists.Lists.{Lists}
 use Rattle.pts_program.specs.Lists.{IsProgram}
 use Rattle.pts_program.specs.Ranges.{IsInRange}
-use Rattle.pts_layout.specs.Layout.{IsPointOfCall, points_before}
+use Rattle.pts_layout.specs.Layout.{points_before}
 use Rattle.pts_conflict.specs.declared.found.Found.{Found}
-use Rattle.pts_conflict.specs.Conflicts.{CallConflict, is_loop}
+use Rattle.pts_conflict.specs.Conflicts.{is_loop}
 use Rattle.pts_conflict.specs.Search.{Across, FindsFirst, InCallOf, IsFit, OneOf, PairInCall, rank_of}
 use Rattle.pts_conflict.proofs.Elements.{at_index, element_of, index_of, of_element}
 use Rattle.pts_conflict.proofs.Firsts.{renamed}
-use Rattle.pts_conflict.proofs.Laws.{fits, in_range, named, placed, stands}
+use Rattle.pts_conflict.proofs.ProgramLaws.{fits, in_range, named, placed, stands}
 use Rattle.pts_conflict.proofs.Meetings.{call_along, call_meet}
 use Rattle.pts_conflict.proofs.Ranges.{all_at, from_range, in_range_of, range_all}
 
 module _ (lists : Lists) (program : IsProgram lists) (c : ℕ) (call : CallInfo) (there : slice_get lists.calls c ≡ Some call) where
-  start : ℕ
+  abbrev start : ℕ
   start = points_before lists.points call.item + call.first_point
 
   -- a point that names the call stands among the call's own
   own_place : (x : PointInfo) (j : ℕ) → slice_get lists.points j ≡ Some x → x.call ≡ Some c → (start ≤ j) × (j < start + call.points)
-  unfolding start
   own_place x j at is = by_call (slice_get lists.calls c) there (named lists program j c x at is)
     where
       by_call : (o : Option CallInfo) → o ≡ Some call → IsSomeAnd o (λ y. (y.item ≡ x.item) × HasPoint y x.number) → (start ≤ j) × (j < start + call.points)
-      unfolding start
       by_call None e h = absurd (let n : None ≡ Some call = e in cc)
       by_call (Some y) e h =
           let same : y ≡ call = cc in
           let item : x.item ≡ call.item = sym h.0 ∙ ap (λ z. z.item) same in
           let point : HasPoint call x.number = subst (λ z. HasPoint z x.number) same h.1 in
           let place : j ≡ points_before lists.points call.item + x.number = placed lists program j x at ∙ ap (λ n. points_before lists.points n + x.number) item in
-          let low = point.from, high = point.before in
+          let low = point.from in let high = point.before in
           ((omega (arith, place, low)), (omega (arith, place, high)))
 
   -- what stands there is of the call
   own_call : (j : ℕ) (x : PointInfo) → start ≤ j → j < start + call.points → slice_get lists.points j ≡ Some x → x.call ≡ Some c
-  unfolding start
   own_call j x from to at = by_point (slice_get lists.points (points_before lists.points call.item + (j - points_before lists.points call.item))) same (stands lists program c (j - points_before lists.points call.item) call there point)
     where
       before : ℕ
       before = points_before lists.points call.item
 
       point : HasPoint call (j - before)
-      unfolding before
       point = record { from = omega (arith, from); before = omega (arith, from, to) }
 
       same : slice_get lists.points (points_before lists.points call.item + (j - points_before lists.points call.item)) ≡ Some x
@@ -61,33 +56,28 @@ module _ (lists : Lists) (program : IsProgram lists) (c : ℕ) (call : CallInfo)
 
   -- and stands in the list, where the call has a point at all
   pub own_within : 0 < call.points → start + call.points ≤ length lists.points
-  unfolding start
   own_within some = by_point (slice_get lists.points (points_before lists.points call.item + last)) refl (stands lists program c last call there point)
     where
       last : ℕ
       last = call.first_point + (call.points - 1)
 
       point : HasPoint call last
-      unfolding last
       point = record { from = omega arith; before = omega (arith, some) }
 
       by_point : (o : Option PointInfo) → slice_get lists.points (points_before lists.points call.item + last) ≡ o → IsSomeAnd o (λ y. (y.item ≡ call.item) × (y.number ≡ last) × (y.call ≡ Some c))
           → points_before lists.points call.item + call.first_point + call.points ≤ length lists.points
-      unfolding last
       by_point None e h = absurd h
       by_point (Some y) e h = let within = slice_get_within lists.points (points_before lists.points call.item + (call.first_point + (call.points - 1))) y e in omega (arith, some, within)
 
-  own : List PointInfo
+  abbrev own : List PointInfo
   own = slice_range lists.points start (start + call.points)
 
   pub own_fits : All IsFit own
-  unfolding own
   own_fits = range_all IsFit lists.points start (start + call.points) (fits lists program)
 
   -- ---- pairs
 
   pub pair_of : (policy : call.policy ≢ policies.Seq) (x : Found) → Across (PairInCall c call (is_loop lists c)) own own x → InCallOf lists c x
-  unfolding own
   pair_of policy x h =
       let first = element_of (λ a. OneOf (PairInCall c call (is_loop lists c) a) own) own x h in
       let a = first.0 in
@@ -100,25 +90,26 @@ module _ (lists : Lists) (program : IsProgram lists) (c : ℕ) (call : CallInfo)
       let b_fit = all_at IsFit lists.points j.0 b j.3 (fits lists program) in
       let a_range = all_at (IsInRange lists.arrays) lists.points i.0 a i.3 (in_range lists program) in
       let b_range = all_at (IsInRange lists.arrays) lists.points j.0 b j.3 (in_range lists program) in
-      let met = call_meet lists.arrays a b x.pair a_range a_fit b_range b_fit call pair.meet in
-      (pair.call, record {
-        call = call;
-        a = a;
-        b = b;
-        there = there;
-        policy = policy;
-        first = at_index lists.points i.0 a i.3;
-        second = at_index lists.points j.0 b j.3;
-        first_call = own_call i.0 a i.1 i.2 i.3;
-        second_call = own_call j.0 b j.1 j.2 j.3;
-        meet = met.0;
-        later = met.1;
-        single = pair.single;
-        unordered = pair.unordered;
-      })
+      let met = call_meet lists.arrays a b x.pair a_range a_fit b_range b_fit call pair.meet in (
+        pair.of_call,
+        record {
+          call = call;
+          a = a;
+          b = b;
+          there = there;
+          policy = policy;
+          first = at_index lists.points i.0 a i.3;
+          second = at_index lists.points j.0 b j.3;
+          first_call = own_call i.0 a i.1 i.2 i.3;
+          second_call = own_call j.0 b j.1 j.2 j.3;
+          meet = met.0;
+          later = met.1;
+          single = pair.single;
+          unordered = pair.unordered;
+        },
+      )
 
   pub in_pair : (x : Found) → InCallOf lists c x → Across (PairInCall c call (is_loop lists c)) own own x
-  unfolding own
   in_pair x h =
       let k = h.1 in
       let same : k.call ≡ call = let e = sym k.there ∙ there in cc in
@@ -127,7 +118,7 @@ module _ (lists : Lists) (program : IsProgram lists) (c : ℕ) (call : CallInfo)
       let a_at = own_place k.a i.0 i.1 k.first_call in
       let b_at = own_place k.b j.0 j.1 k.second_call in
       let pair : PairInCall c call (is_loop lists c) k.a k.b x = subst (λ y. PairInCall c y (is_loop lists c) k.a k.b x) same (record {
-        call = h.0;
+        of_call = h.0;
         meet = call_along lists.arrays k.a k.b x.pair k.call k.meet k.later;
         single = k.single;
         unordered = k.unordered;
@@ -147,5 +138,5 @@ module _ (lists : Lists) (program : IsProgram lists) (c : ℕ) (call : CallInfo)
   none_without_points none = λ x h.
       let i = index_of lists.points h.1.a h.1.first in
       let at = own_place h.1.a i.0 i.1 h.1.first_call in
-      let low = at.0, high = at.1 in
+      let low = at.0 in let high = at.1 in
       omega (arith, none, low, high)

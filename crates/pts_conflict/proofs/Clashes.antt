@@ -1,6 +1,5 @@
 -- Two points: what decides that they do not conflict, and the first conflict where they do.
-use Rattle.std.proofs.Common.{◌≡◌, ◌≢◌, ℕ, zero, suc, ◌+◌, ◌^◌, ◌<◌, ◌≤◌, Bool, true, false, ◌&&◌, ◌||◌, ℤ, pos, ◌+ℤ◌, ◌*ℤ◌, Some, None, Option, List, [], ◌∷◌, refl, sym, ap, ◌∙◌, subst, arith}
-use Rattle.std.specs.Prelude.{not}
+use Rattle.std.proofs.Common.{◌≡◌, ◌≢◌, ℕ, ◌^◌, ◌≤◌, Bool, true, false, ◌&&◌, ◌||◌, ℤ, pos, ◌+ℤ◌, ◌*ℤ◌, Some, None, Option, [], ◌∷◌, refl, sym, ◌∙◌, subst, arith}
 use Rattle.std.proofs.lemmas.Bool.{false≢true}
 use Rattle.std.proofs.lemmas.Bool.Decides.{nat_tests}
 use Rattle.std.proofs.lemmas.Int.{ints}
@@ -8,8 +7,6 @@ use Rattle.pts_affine.specs.declared.line.Line.{Line}
 use Rattle.pts_affine.specs.Lines.{IsBounded, cell}
 use Rattle.pts_affine.specs.Lines as lines
 use Rattle.pts_points.specs.declared.point.CallInfo.{CallInfo}
-use Rattle.pts_points.specs.declared.point.PointForm.{PointForm}
-use Rattle.pts_points.specs.declared.point.PointForm.TheVariants as forms
 use Rattle.pts_points.specs.declared.point.PointInfo.{PointInfo}
 use Rattle.pts_points.specs.Standings.{IsCell}
 use Rattle.pts_conflict.specs.declared.pair.Pair.{Pair}
@@ -56,12 +53,12 @@ module _ (after : Bool) (a : PointInfo) (first : Line) (b : PointInfo) (second :
   pub none_write : (is_writing a.form || is_writing b.form) ≡ false → Found_by None
   none_write h = λ x m. false≢true (sym h ∙ m.writes)
 
-  pub none_meet : FindsFirst (Meets after first second) by_place None → Found_by None
-  none_meet f = λ x m. f (place_of x) m.meets
+  pub none_meet : (r : Option Meeting) → r ≡ None → FindsFirst (Meets after first second) by_place r → Found_by None
+  none_meet r e f = λ x m. (subst (FindsFirst (Meets after first second) by_place) e f) (place_of x) m.meets
 
-  pub some_meet : (z : Meeting) (x : Pair) → a.array ≡ b.array → (is_writing a.form || is_writing b.form) ≡ true
-      → FindsFirst (Meets after first second) by_place (Some z) → Names a b x → place_of x ≡ z → Found_by (Some x)
-  some_meet z x array writes f names same = record {
+  pub some_meet : (r : Option Meeting) (z : Meeting) (x : Pair) → r ≡ Some z → a.array ≡ b.array → (is_writing a.form || is_writing b.form) ≡ true
+      → FindsFirst (Meets after first second) by_place r → Names a b x → place_of x ≡ z → Found_by (Some x)
+  some_meet r z x e array writes g names same = let f = subst (FindsFirst (Meets after first second) by_place) e g in record {
     holds = record { names = names; array = array; writes = writes; meets = subst (Meets after first second) (sym same) f.holds };
     least = λ y m. subst (λ w. is_at_most (by_place w) (by_pair y) ≡ true) (sym same) (f.least (place_of y) m.meets);
   }
@@ -105,15 +102,16 @@ module _ (n : ℕ) (call : CallInfo) (is_loop : Bool) (a b : PointInfo) where
   abbrev Along : Option Pair → Type 0
   Along r = FindsFirst (MeetAlong true a (line_in_call call a.form a.line) b (line_in_call call b.form b.line)) by_pair r
 
-  pub call_none : Along None → In_call None
-  call_none f = λ x c. f x.pair c.meet
+  pub call_none : (r : Option Pair) → r ≡ None → Along r → In_call None
+  call_none r e f = λ x c. (subst Along e f) x.pair c.meet
 
-  pub call_some : (x : Pair) (found : Found) → (is_live_out a.form && is_live_out b.form) ≡ false → are_ordered call.policy is_loop a b ≡ false → Along (Some x)
+  pub call_some : (r : Option Pair) (x : Pair) (found : Found) → r ≡ Some x → (is_live_out a.form && is_live_out b.form) ≡ false → are_ordered call.policy is_loop a b ≡ false → Along r
       → found ≡ record { call = Some n; pair = x } → In_call (Some found)
-  call_some x found single unordered f e =
+  call_some r x found is single unordered g e =
+      let f = subst Along is g in
       subst (λ r. In_call (Some r)) (sym e) (record {
-        holds = record { call = refl; meet = f.holds; single = single; unordered = unordered };
-        least = λ y c. subst (λ o. is_at_most (rank (Some n) x) (rank o y.pair) ≡ true) (sym c.call) (call_rank n a b x y.pair f.holds.names c.meet.names (f.least y.pair c.meet));
+        holds = record { of_call = refl; meet = f.holds; single = single; unordered = unordered };
+        least = λ y c. subst (λ o. is_at_most (rank (Some n) x) (rank o y.pair) ≡ true) (sym c.of_call) (call_rank n a b x y.pair f.holds.names c.meet.names (f.least y.pair c.meet));
       })
 
 -- ---- between parts
@@ -125,12 +123,13 @@ module _ (a b : PointInfo) where
   abbrev Beside : Option Pair → Type 0
   Beside r = FindsFirst (MeetAlong false a (line_beside a.form a.line) b (line_beside b.form b.line)) by_pair r
 
-  pub parts_none : Beside None → Between None
-  parts_none f = λ x c. f x.pair c.meet
+  pub parts_none : (r : Option Pair) → r ≡ None → Beside r → Between None
+  parts_none r e f = λ x c. (subst Beside e f) x.pair c.meet
 
-  pub parts_some : (x : Pair) (found : Found) → Beside (Some x) → found ≡ record { call = None; pair = x } → Between (Some found)
-  parts_some x found f e =
+  pub parts_some : (r : Option Pair) (x : Pair) (found : Found) → r ≡ Some x → Beside r → found ≡ record { call = None; pair = x } → Between (Some found)
+  parts_some r x found is g e =
+      let f = subst Beside is g in
       subst (λ r. Between (Some r)) (sym e) (record {
-        holds = record { call = refl; meet = f.holds };
-        least = λ y c. subst (λ o. is_at_most (rank None x) (rank o y.pair) ≡ true) (sym c.call) (parts_rank a b x y.pair f.holds.names c.meet.names (f.least y.pair c.meet));
+        holds = record { of_call = refl; meet = f.holds };
+        least = λ y c. subst (λ o. is_at_most (rank None x) (rank o y.pair) ≡ true) (sym c.of_call) (parts_rank a b x y.pair f.holds.names c.meet.names (f.least y.pair c.meet));
       })

@@ -1,8 +1,7 @@
 -- Elements of lists, and of ranges of lists.
-use Rattle.std.proofs.Common.{◌≡◌, ℕ, zero, suc, ◌+◌, ◌-◌, ◌<◌, ◌≤◌, ◌⊎◌, inl, inr, Some, None, Option, List, [], ◌∷◌, ◌++◌, length, take, drop, get_or, slice_get, refl, sym, ap, ◌∙◌, subst, arith}
+use Rattle.std.proofs.Common.{◌≡◌, ℕ, zero, suc, ◌+◌, ◌<◌, ◌⊎◌, inl, inr, Some, List, [], ◌∷◌, drop, get_or, slice_get, refl, sym, ap, ◌∙◌, subst, arith}
 use Rattle.std.specs.List.{Contains}
-use Rattle.std.specs.Prelude.{All, slice_range}
-use Rattle.std.proofs.lemmas.List.Elements.{Contains-append_cases, Contains-append_left, Contains-append_right}
+use Rattle.std.proofs.lemmas.List.Elements.{Contains-append_cases, Contains-append_right}
 use Rattle.std.proofs.lemmas.Option.{slice_get_within}
 use Rattle.pts_conflict.specs.Search.{OneOf}
 
@@ -39,12 +38,12 @@ module _ {A : Type 0} where
   -- ---- ranges
 
   pub dropped_at : (n : ℕ) (xs : List A) (k : ℕ) → slice_get (drop n xs) k ≡ slice_get xs (n + k)
-  dropped_at zero xs k = refl
+  dropped_at zero xs k = let e : k ≡ 0 + k = omega arith in ap (slice_get xs) e
   dropped_at (suc n) [] k = none k
     where
       none : (k : ℕ) → slice_get {X = A} [] k ≡ slice_get [] (suc n + k)
       none k = refl
-  dropped_at (suc n) (x ∷ xs) k = dropped_at n xs k
+  dropped_at (suc n) (x ∷ xs) k = let e : suc (n + k) ≡ suc n + k = omega arith in dropped_at n xs k ∙ ap (slice_get (x ∷ xs)) e
 
 module _ {A B : Type 0} (P : B → A → Type 0) where
   -- what holds at one of these elements, by the element

@@ -1,10 +1,8 @@
 -- The conflicts of what a statement of a block runs, by intervals of points, and of all statements from the last one on.
-use Rattle.std.proofs.Common.{◌≡◌, ℕ, zero, suc, ◌+◌, ◌-◌, ◌<◌, ◌≤◌, ◌⊎◌, inl, inr, Bool, true, false, Some, None, Option, List, [], ◌∷◌, length, drop, get_or, slice_get, refl, sym, ap, ◌∙◌, subst, arith}
-use Rattle.std.specs.Prelude.{All, if◌then◌else◌, slice_range}
-use Rattle.std.specs.List.{Contains}
+use Rattle.std.proofs.Common.{◌≡◌, ℕ, ◌+◌, ◌-◌, ◌<◌, ◌≤◌, inl, inr, Bool, true, false, None, Option, List, [], ◌∷◌, length, drop, get_or, refl, sym, ap, ◌∙◌, subst, arith}
+use Rattle.std.specs.Prelude.{if◌then◌else◌, slice_range}
 use Rattle.std.proofs.lemmas.Bool.{false≢true}
 use Rattle.std.proofs.lemmas.List.{drop_all, drop_more}
-use Rattle.std.proofs.lemmas.Option.{slice_get_within}
 use Rattle.pts_points.specs.declared.point.PointInfo.{PointInfo}
 use Rattle.pts_lowering.specs.declared.tasks.LoweredTask.{LoweredTask}
 use Rattle.pts_lowering.specs.declared.tasks.LoweredTask.TheOpen.{LoweredTask-F}
@@ -13,12 +11,12 @@ use Rattle.pts_program.specs.declared.lists.Lists.{Lists}
 use Rattle.pts_layout.specs.Layout.{HavePoints}
 use Rattle.pts_layout.specs.Layout.HavePoints.{none}
 use Rattle.pts_conflict.specs.declared.found.Found.{Found}
-use Rattle.pts_conflict.specs.Concurrency.{IsPointOfTasks, is_wait, phase}
+use Rattle.pts_conflict.specs.Concurrency.{is_wait, phase}
 use Rattle.pts_conflict.specs.Search.{Across, FindsFirst, Forks, OneOf, PairOfParts, SomeForks, is_run, lower, phase_end, rank_of, run_form}
-use Rattle.pts_conflict.proofs.Elements.{at_index, element_of, index_of, of_element}
+use Rattle.pts_conflict.proofs.Elements.{element_of, of_element}
 use Rattle.pts_conflict.proofs.Firsts.{joined, renamed}
 use Rattle.pts_conflict.proofs.Ranges.{from_range, in_range_of}
-use Rattle.pts_conflict.proofs.TaskPoints.{both, inside, one_low, owned, run_low, tasks_end}
+use Rattle.pts_conflict.proofs.TaskPoints.{both, inside, one_low, ordered, owned, run_low, tasks_end}
 
 -- ---- phases
 
@@ -102,12 +100,13 @@ module _ (lists : Lists) (points : List PointInfo) (body : List LoweredTask) whe
         first = subst (λ xs. FindsFirst (SomeForks lists points xs) rank_of None) (sym nothing) (λ f h. h);
       }
 
-  pub forks_more : (i at stop low : ℕ) (best found next : Option Found) (stop' : ℕ) (x d : LoweredTask) → Found_behind (i + 1) at stop best → i < length body → x ≡ get_or body i d
+  pub forks_more : (i at stop low : ℕ) (best found next : Option Found) (stop' : ℕ) (x d : LoweredTask) → Found_behind i at stop best → 0 < i → i - 1 < length body → x ≡ get_or body (i - 1) d
       → HavePoints lists (x ∷ []) low at → ((rest : List LoweredTask) → HavePoints lists (phase rest) at stop → FindsFirst (Forks lists points x rest) rank_of found)
-      → next ≡ lower rank_of best found → stop' ≡ phase_end x low stop → Found_behind i low stop' next
-  forks_more i at stop low best found next stop' x d h within is mine here e end =
-      let rest = drop (i + 1) body in
-      let whole : drop i body ≡ x ∷ rest = drop_more body i d within ∙ ap (λ y. y ∷ rest) (sym is) in
+      → next ≡ lower rank_of best found → stop' ≡ phase_end x low stop → Found_behind (i - 1) low stop' next
+  forks_more i at stop low best found next stop' x d h some within is mine here e end =
+      let rest = drop i body in
+      let step : i - 1 + 1 ≡ i = omega (arith, some) in
+      let whole : drop (i - 1) body ≡ x ∷ rest = drop_more body (i - 1) d within ∙ ap (λ y. y ∷ drop (i - 1 + 1) body) (sym is) ∙ ap (λ n. x ∷ drop n body) step in
       let both_found = joined rank_of (SomeForks lists points rest) (Forks lists points x rest) (SomeForks lists points (x ∷ rest)) best found
       (λ f k. elim k [ inl a ↦ inr a | inr b ↦ inl b ]) (λ f k. inr k) (λ f k. inl k) h.first (here rest h.phase_ends) in
       record {
@@ -117,3 +116,11 @@ module _ (lists : Lists) (points : List PointInfo) (body : List LoweredTask) whe
 
   pub forks_all : (at stop : ℕ) (best : Option Found) → Found_behind 0 at stop best → FindsFirst (SomeForks lists points body) rank_of best
   forks_all at stop best h = h.first
+
+-- a phase ends no later than before
+pub end_least : (lists : Lists) (x : LoweredTask) (low at stop end stop' : ℕ) → HavePoints lists (x ∷ []) low at → at ≤ stop → stop ≤ end → stop' ≡ phase_end x low stop → stop' ≤ end
+end_least lists x low at stop end stop' h k most e = subst (λ n. n ≤ end) (sym e) (by_test (is_wait x))
+  where
+    by_test : (b : Bool) → (if b then low else stop) ≤ end
+    by_test true = let l = ordered lists h in omega (arith, l, k, most)
+    by_test false = most

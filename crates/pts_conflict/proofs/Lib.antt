@@ -1,13 +1,14 @@
 mod CallPairs
 mod Clashes
-mod Clearing
 mod Elements
 mod Firsts
 mod Forking
-mod Laws
+mod Halving
+mod LeastConflicts
 mod Meetings
 mod OneConflict
 mod Opposites
 mod PartPairs
+mod ProgramLaws
 mod Ranges
 mod TaskPoints

@@ -1,10 +1,9 @@
 -- Points that meet along their lines touch one cell, and the other way round.
-use Rattle.std.proofs.Common.{◌≡◌, ℕ, zero, suc, ◌+◌, ◌^◌, ◌<◌, ◌≤◌, ◌⊎◌, Bool, true, false, ◌&&◌, ◌||◌, IsTrue, ℤ, pos, ◌+ℤ◌, ◌*ℤ◌, Some, None, Option, List, [], ◌∷◌, slice_get, refl, sym, ap, ◌∙◌, subst, arith}
-use Rattle.std.specs.Prelude.{All, ◌≤ℤ◌, ◌<ℤ◌}
-use Rattle.std.specs.List.{Contains}
+use Rattle.std.proofs.Common.{◌≡◌, ℕ, ◌<◌, Bool, true, false, IsTrue, ℤ, pos, List, refl, sym, ◌∙◌, subst, arith}
+use Rattle.std.specs.Prelude.{◌<ℤ◌}
 use Rattle.std.proofs.lemmas.Int.{ints}
 use Rattle.pts_affine.specs.declared.line.Line.{Line}
-use Rattle.pts_affine.specs.Lines.{IsBounded, cell}
+use Rattle.pts_affine.specs.Lines.{cell}
 use Rattle.pts_points.specs.declared.point.CallInfo.{CallInfo}
 use Rattle.pts_points.specs.declared.point.PointForm.{PointForm}
 use Rattle.pts_points.specs.declared.point.PointForm.TheVariants as forms
@@ -14,8 +13,8 @@ use Rattle.pts_program.specs.declared.info.ArrayInfo.{ArrayInfo}
 use Rattle.pts_program.specs.Ranges.{IsInRange, length_at}
 use Rattle.pts_conflict.specs.declared.pair.Pair.{Pair}
 use Rattle.pts_conflict.specs.Conflicts.{Meet}
-use Rattle.pts_conflict.specs.Touches.{Touches, is_live_out, is_writing, positions_beside, positions_in_call}
-use Rattle.pts_conflict.specs.Search.{IsFit, MeetAlong, line_beside, line_in_call, place_of}
+use Rattle.pts_conflict.specs.Touches.{Touches, positions_beside, positions_in_call}
+use Rattle.pts_conflict.specs.Search.{IsFit, MeetAlong, line_beside, line_in_call}
 use Rattle.pts_conflict.proofs.Clashes.{level}
 
 -- a cell of the line, which the array has

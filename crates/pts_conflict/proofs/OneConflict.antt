@@ -1,5 +1,5 @@
 -- A program has one least conflict at most.
-use Rattle.std.proofs.Common.{◌≡◌, ℕ, zero, suc, ◌+◌, ◌<◌, Bool, true, false, ◌&&◌, ◌||◌, Some, None, Option, List, [], ◌∷◌, slice_get, refl, sym, ap, ◌∙◌, subst, arith}
+use Rattle.std.proofs.Common.{◌≡◌, ℕ, true, Some, None, Option, List, [], ◌∷◌, slice_get, refl, sym, ap, ◌∙◌, arith}
 use Rattle.std.specs.List.{Contains}
 use Rattle.std.proofs.lemmas.Bool.Decides.{nat_tests}
 use Rattle.pts_points.specs.declared.point.PointInfo.{PointInfo}
@@ -9,7 +9,7 @@ use Rattle.pts_layout.specs.Layout.{points_before}
 use Rattle.pts_conflict.specs.declared.pair.Pair.{Pair}
 use Rattle.pts_conflict.specs.Conflicts.{Conflicts, IsClear, IsLeastConflict, is_at_most, rank}
 use Rattle.pts_conflict.proofs.Elements.{index_of}
-use Rattle.pts_conflict.proofs.Laws.{placed}
+use Rattle.pts_conflict.proofs.ProgramLaws.{placed}
 
 -- ---- ranks
 
@@ -40,8 +40,8 @@ pub record Same (x y : Pair) : Type 0 where
 told : (o o' : Option ℕ) (x y : Pair) → rank o x ≡ rank o' y → Same x y
 told (Some c) (Some c') x y e = record { item = cc; p = cc; q = cc; k = cc; m = cc; cell = cc }
 told None None x y e = record { item = cc; p = cc; q = cc; k = cc; m = cc; cell = cc }
-told (Some c) None x y e = absurd (let differ : 0 ≡ 1 = cc in omega (arith, differ))
-told None (Some c) x y e = absurd (let differ : 1 ≡ 0 = cc in omega (arith, differ))
+told (Some c) None x y e = absurd (let differ : ◌≡◌ {A = ℕ} 0 1 = cc in omega (arith, differ))
+told None (Some c) x y e = absurd (let differ : ◌≡◌ {A = ℕ} 1 0 = cc in omega (arith, differ))
 
 -- ---- points
 

@@ -1,6 +1,5 @@
 -- Opposite branches by one pass over two ascending lists of tests.
-use Rattle.std.proofs.Common.{◌≡◌, ℕ, zero, suc, ◌+◌, ◌<◌, ◌≤◌, Bool, true, false, ◌&&◌, ◌||◌, List, [], ◌∷◌, length, get_or, drop, refl, sym, ap, ◌∙◌, subst, arith}
-use Rattle.std.specs.Prelude.{eqb, not}
+use Rattle.std.proofs.Common.{◌≡◌, ℕ, zero, suc, ◌+◌, ◌<◌, ◌≤◌, true, false, List, [], ◌∷◌, length, get_or, drop, refl, sym, ap, ◌∙◌, subst, arith}
 use Rattle.std.specs.List.{list_any}
 use Rattle.std.proofs.lemmas.Bool.Decides.{nat_tests}
 use Rattle.std.proofs.lemmas.List.{drop_all, drop_more}
@@ -11,7 +10,7 @@ use Rattle.pts_conflict.specs.Order.{are_opposite, are_sides, same_side}
 -- ---- tests that ascend from a number on
 
 -- each test is at least this number
-From : ℕ → List Branch → Type 0
+abbrev pub From : ℕ → List Branch → Type 0
 From low bs = (n : ℕ) × Ascends low bs n
 
 tail : (low : ℕ) (b : Branch) (bs : List Branch) → From low (b ∷ bs) → From (b.test + 1) bs

@@ -1,5 +1,5 @@
 -- The conflicts between parts of blocks, by the points of the item, and those of the whole program.
-use Rattle.std.proofs.Common.{◌≡◌, ℕ, zero, suc, ◌+◌, ◌-◌, ◌<◌, ◌≤◌, ◌⊎◌, inl, inr, Bool, true, false, Some, None, Option, List, [], ◌∷◌, ◌++◌, length, drop, slice_get, refl, sym, ap, ◌∙◌, subst, arith}
+use Rattle.std.proofs.Common.{◌≡◌, ℕ, ◌+◌, ◌-◌, ◌<◌, ◌≤◌, ◌⊎◌, inl, inr, Bool, true, false, Some, None, Option, List, [], ◌∷◌, ◌++◌, length, drop, slice_get, refl, sym, ap, ◌∙◌, subst, arith}
 use Rattle.std.specs.Prelude.{All, IsSomeAnd, if◌then◌else◌}
 use Rattle.std.specs.List.{Contains}
 use Rattle.std.proofs.lemmas.List.{length-drop}
@@ -13,14 +13,13 @@ use Rattle.pts_program.specs.Lists.{IsProgram}
 use Rattle.pts_program.specs.Ranges.{IsInRange}
 use Rattle.pts_layout.specs.Layout.{IsInOrder, IsWithin, points_before}
 use Rattle.pts_conflict.specs.declared.found.Found.{Found}
-use Rattle.pts_conflict.specs.declared.pair.Pair.{Pair}
-use Rattle.pts_conflict.specs.Concurrency.{AreConcurrent, IsPointOfTask, IsPointOfTasks, is_wait, phase}
+use Rattle.pts_conflict.specs.Concurrency.{IsPointOfTasks, is_wait, phase}
 use Rattle.pts_conflict.specs.Concurrency.IsPointOfTask.{in_run}
-use Rattle.pts_conflict.specs.Conflicts.{CallConflict, Conflicts, PartConflict}
-use Rattle.pts_conflict.specs.Search.{Below, FindsFirst, Forks, InBlock, InBlockOf, InCallOf, InSomeBlock, InSomeCall, IsConflict, IsFit, PairOfParts, SomeForks, lower, rank_of}
+use Rattle.pts_conflict.specs.Conflicts.{Conflicts, PartConflict}
+use Rattle.pts_conflict.specs.Search.{FindsFirst, Forks, InBlock, InBlockOf, InSomeBlock, InSomeCall, IsConflict, IsFit, SomeForks, lower, rank_of}
 use Rattle.pts_conflict.proofs.Elements.{at_index, dropped_at, first_or, here, index_of, there}
-use Rattle.pts_conflict.proofs.Firsts.{joined, renamed}
-use Rattle.pts_conflict.proofs.Laws.{block_stands, fits, in_order, in_range, placed}
+use Rattle.pts_conflict.proofs.Firsts.{joined}
+use Rattle.pts_conflict.proofs.ProgramLaws.{block_stands, fits, in_order, in_range, placed}
 use Rattle.pts_conflict.proofs.Meetings.{parts_along, parts_meet}
 use Rattle.pts_conflict.proofs.Ranges.{all_at}
 use Rattle.pts_conflict.proofs.TaskPoints.{inside}
@@ -29,7 +28,8 @@ use Rattle.pts_conflict.proofs.TaskPoints.{inside}
 
 -- a statement of a body that forks, and what stands around it
 pub record ForksAt (lists : Lists) (points : List PointInfo) (body : List LoweredTask) (x : Found) : Type 0 where
-  pub front rest : List LoweredTask
+  pub front : List LoweredTask
+  pub rest : List LoweredTask
   pub task : LoweredTask
   pub stands : body ≡ front ++ task ∷ rest
   pub forks : Forks lists points task rest x
@@ -47,28 +47,26 @@ module _ (lists : Lists) (points : List PointInfo) (x : Found) where
 -- the rest of a phase is among what stands behind
 in_phase : (xs : List LoweredTask) (y : LoweredTask) → Contains (phase xs) y → Contains xs y
 in_phase [] y h = h
-in_phase (x ∷ xs) y h = by_test (is_wait x) h
+in_phase (x ∷ xs) y h = by_test (λ k. in_phase xs y k) (is_wait x) h
   where
-    by_test : (b : Bool) → Contains (if b then [] else x ∷ phase xs) y → Contains (x ∷ xs) y
-    by_test true k = absurd (let less = k.1 in omega (arith, less))
-    by_test false k = elim (first_or x (phase xs) y k) [ inl e ↦ subst (Contains (x ∷ xs)) e (here x xs) | inr r ↦ there x xs y (in_phase xs y r) ]
+    by_test : (Contains (phase xs) y → Contains xs y) → (b : Bool) → Contains (if b then [] else x ∷ phase xs) y → Contains (x ∷ xs) y
+    by_test rest true k = absurd (let less = k.1 in omega (arith, less))
+    by_test rest false k = elim (first_or x (phase xs) y k) [ inl e ↦ subst (Contains (x ∷ xs)) e (here x xs) | inr r ↦ there x xs y (rest r) ]
 
 -- ---- one block
 
 module _ (lists : Lists) (program : IsProgram lists) (n : ℕ) (block : LoweredBlock) (at : slice_get lists.lowered_blocks n ≡ Some block) where
-  points : List PointInfo
+  abbrev points : List PointInfo
   points = drop (points_before lists.points block.item) lists.points
 
   pub in_block_of : (r : Option Found) → FindsFirst (SomeForks lists points block.body) rank_of r → FindsFirst (InBlockOf lists n) rank_of r
-  unfolding points
   in_block_of r f = subst (λ o. FindsFirst (λ x. IsSomeAnd o (λ y. InBlock lists y x)) rank_of r) (sym at) f
 
-  order : IsInOrder lists block
+  pub order : IsInOrder lists block
   order = all_at (IsInOrder lists) lists.lowered_blocks n block at (in_order lists program)
 
   -- point k of the block is this one
   is_point : (k : ℕ) (x : PointInfo) → IsWithin block k → slice_get points k ≡ Some x → (x.item ≡ block.item) × (x.number ≡ k)
-  unfolding points
   is_point k x within e = by_point (slice_get lists.points (points_before lists.points block.item + k)) (sym (dropped_at (points_before lists.points block.item) lists.points k) ∙ e) (block_stands lists program n k block at within)
     where
       by_point : (o : Option PointInfo) → o ≡ Some x → IsSomeAnd o (λ y. (y.item ≡ block.item) × (y.number ≡ k) × (y.item ≡ block.item)) → (x.item ≡ block.item) × (x.number ≡ k)
@@ -79,7 +77,6 @@ module _ (lists : Lists) (program : IsProgram lists) (n : ℕ) (block : LoweredB
   within_body k h = let b = inside lists k order h in record { from = b.0; before = b.1 }
 
   pub enough : 0 < block.points → block.first_point + block.points ≤ length points
-  unfolding points
   enough some = by_point (slice_get lists.points (points_before lists.points block.item + last)) refl (block_stands lists program n last block at (record { from = omega arith; before = omega (arith, some) }))
     where
       last : ℕ
@@ -87,7 +84,6 @@ module _ (lists : Lists) (program : IsProgram lists) (n : ℕ) (block : LoweredB
 
       by_point : (o : Option PointInfo) → slice_get lists.points (points_before lists.points block.item + last) ≡ o → IsSomeAnd o (λ y. (y.item ≡ block.item) × (y.number ≡ last) × (y.item ≡ block.item))
           → block.first_point + block.points ≤ length (drop (points_before lists.points block.item) lists.points)
-      unfolding last
       by_point None e h = absurd h
       by_point (Some y) e h =
           let within = slice_get_within lists.points (points_before lists.points block.item + (block.first_point + (block.points - 1))) y e in
@@ -95,14 +91,13 @@ module _ (lists : Lists) (program : IsProgram lists) (n : ℕ) (block : LoweredB
           omega (arith, some, within, size)
 
   pub points_fit : All IsFit points
-  unfolding points
   points_fit = All-drop IsFit (points_before lists.points block.item) lists.points (fits lists program)
 
   pub none_in_empty : block.points ≡ 0 → FindsFirst (SomeForks lists points block.body) rank_of None
   none_in_empty none = λ x h.
       let f = fork_of lists points x block.body h in
       let w = within_body f.forks.k (first_of f.front f.task f.rest f.stands x f.forks) in
-      let low = w.from, high = w.before in
+      let low = w.from in let high = w.before in
       omega (arith, none, low, high)
     where
       first_of : (front : List LoweredTask) (task : LoweredTask) (rest : List LoweredTask) → block.body ≡ front ++ task ∷ rest → (x : Found) (f : Forks lists points task rest x) → IsPointOfTasks lists block.body f.k
@@ -118,7 +113,6 @@ module _ (lists : Lists) (program : IsProgram lists) (n : ℕ) (block : LoweredB
   behind_body front task rest stands y h = subst (λ ys. Contains ys y) (sym stands) (Contains-append_right front (task ∷ rest) y (there task rest y (in_phase rest y h)))
 
   pub part_conflict : (x : Found) → SomeForks lists points block.body x → PartConflict lists x.pair
-  unfolding points
   part_conflict x h =
       let f = fork_of lists points x block.body h in
       let k = within_body f.forks.k (f.task, in_body f.front f.task f.rest f.stands, in_run f.forks.tasks f.forks.first.0 f.forks.runs f.forks.first.1 f.forks.first.2) in
@@ -149,11 +143,11 @@ module _ (lists : Lists) (program : IsProgram lists) (n : ℕ) (block : LoweredB
           second = subst (IsPointOfTasks lists (phase f.rest)) (sym b_is.1) f.forks.second;
         };
         meet = parts_meet lists.arrays a b x.pair
-          (all_at (IsInRange lists.arrays) lists.points (points_before lists.points block.item + f.forks.k) a i (in_range lists program))
-          (all_at IsFit lists.points (points_before lists.points block.item + f.forks.k) a i (fits lists program))
-          (all_at (IsInRange lists.arrays) lists.points (points_before lists.points block.item + f.forks.m) b j (in_range lists program))
-          (all_at IsFit lists.points (points_before lists.points block.item + f.forks.m) b j (fits lists program))
-          f.forks.pair.meet;
+            (all_at (IsInRange lists.arrays) lists.points (points_before lists.points block.item + f.forks.k) a i (in_range lists program))
+            (all_at IsFit lists.points (points_before lists.points block.item + f.forks.k) a i (fits lists program))
+            (all_at (IsInRange lists.arrays) lists.points (points_before lists.points block.item + f.forks.m) b j (in_range lists program))
+            (all_at IsFit lists.points (points_before lists.points block.item + f.forks.m) b j (fits lists program))
+            f.forks.pair.meet;
       }
 
 -- ---- the program
@@ -182,11 +176,13 @@ module _ (lists : Lists) (program : IsProgram lists) where
         second = c.second;
         first_point = at_number c.block.item h.a h.first (sym c.of_item);
         second_point = at_number c.block.item h.b h.second (h.one_item ∙ sym c.of_item);
-        pair = record { call = none; meet = parts_along lists.arrays h.a h.b x.pair h.meet };
-      } in
-      (n.0, slice_get_within lists.lowered_blocks n.0 c.block n.1,
+        pair = record { of_call = none; meet = parts_along lists.arrays h.a h.b x.pair h.meet };
+      } in (
+        n.0,
+        slice_get_within lists.lowered_blocks n.0 c.block n.1,
         subst (λ o. IsSomeAnd o (λ y. InBlock lists y x)) (sym n.1)
-        (subst (λ ys. SomeForks lists points ys x) (sym c.stands) (some_fork lists points x c.front c.task c.rest forks)))
+            (subst (λ ys. SomeForks lists points ys x) (sym c.stands) (some_fork lists points x c.front c.task c.rest forks)),
+      )
 
   split : (x : Found) → IsConflict lists x → InSomeCall lists x ⊎ InSomeBlock lists x
   split x h = by_call x.call refl h
@@ -205,7 +201,7 @@ module _ (lists : Lists) (program : IsProgram lists) where
       by_block n None e k = absurd k
       by_block n (Some block) e k =
           let f = fork_of lists (drop (points_before lists.points block.item) lists.points) x block.body k in
-          subst (λ o. Conflicts lists o x.pair) (sym f.forks.pair.call) (part_conflict lists program n block e x k)
+          subst (λ o. Conflicts lists o x.pair) (sym f.forks.pair.of_call) (part_conflict lists program n block e x k)
 
   pub all_conflicts : (r s next : Option Found) → FindsFirst (InSomeCall lists) rank_of r → FindsFirst (InSomeBlock lists) rank_of s → next ≡ lower rank_of r s → FindsFirst (IsConflict lists) rank_of next
   all_conflicts r s next f g e = subst (FindsFirst (IsConflict lists) rank_of) (sym e) (joined rank_of (InSomeCall lists) (InSomeBlock lists) (IsConflict lists) r s split of_call of_block f g)

@@ -1,9 +1,10 @@
 -- Elements of a range of a list.
-use Rattle.std.proofs.Common.{◌≡◌, ℕ, zero, suc, ◌+◌, ◌-◌, ◌<◌, ◌≤◌, Some, None, Option, List, [], ◌∷◌, length, take, drop, get_or, slice_get, refl, sym, ap, ◌∙◌, subst, arith}
+use Rattle.std.proofs.Common.{◌≡◌, ℕ, zero, suc, ◌+◌, ◌-◌, ◌<◌, ◌≤◌, Some, List, [], ◌∷◌, length, take, drop, get_or, slice_get, sym, ap, ◌∙◌, subst, arith}
 use Rattle.std.specs.Prelude.{All, slice_range}
 use Rattle.std.specs.List.{Contains}
 use Rattle.std.proofs.lemmas.List.Elements.{All-take, All-drop}
-use Rattle.std.proofs.lemmas.Option.{slice_get_within}
+use Rattle.std.proofs.lemmas.List.{length-drop, take_all}
+use Rattle.std.proofs.lemmas.Option.{slice_get-get_or, slice_get_within}
 use Rattle.pts_conflict.proofs.Elements.{at_index, dropped_at, index_of}
 
 module _ {A : Type 0} where
@@ -42,3 +43,14 @@ module _ {A : Type 0} where
 
   pub all_at : (P : A → Type 0) (xs : List A) (k : ℕ) (y : A) → slice_get xs k ≡ Some y → All P xs → P y
   all_at P xs k y e h = subst P (got xs k y y e) (h k y (slice_get_within xs k y e))
+
+  -- an element that an index gives
+  pub slice_is : (xs ys : List A) (i : ℕ) (x d : A) → ys ≡ xs → i < length xs → x ≡ get_or ys i d → slice_get xs i ≡ Some x
+  slice_is xs ys i x d e within is = slice_get-get_or xs i d within ∙ ap Some (sym (is ∙ ap (λ zs. get_or zs i d) e))
+
+  -- a part from an index on
+  pub rest_from : (xs : List A) (n : ℕ) → take (length xs - n) (drop n xs) ≡ drop n xs
+  rest_from xs n = let size = length-drop n xs in take_all (length xs - n) (drop n xs) (omega (arith, size))
+
+  pub rest_part : (ys xs : List A) (m n : ℕ) → ys ≡ xs → m ≡ n → take (length ys - m) (drop m ys) ≡ drop n xs
+  rest_part ys xs m n e f = rest_from ys m ∙ (λ i. drop (f i) (e i))

@@ -1,10 +1,8 @@
 -- Statements of blocks and the numbers of their points: which one a number belongs to, and where statements begin whose end is known.
-use Rattle.std.proofs.Common.{◌≡◌, ℕ, zero, suc, ◌+◌, ◌<◌, ◌≤◌, ◌⊎◌, inl, inr, true, false, Some, List, [], ◌∷◌, ◌++◌, length, take, drop, get_or, slice_get, refl, sym, ap, ◌∙◌, subst, arith}
-use Rattle.std.specs.Prelude.{if◌then◌else◌, Bool}
+use Rattle.std.proofs.Common.{◌≡◌, ℕ, ◌+◌, ◌-◌, ◌<◌, ◌≤◌, ◌⊎◌, inl, inr, Some, List, [], ◌∷◌, ◌++◌, length, take, drop, get_or, slice_get, refl, sym, ap, ◌∙◌, subst, arith}
 use Rattle.std.specs.List.{Contains}
 use Rattle.std.proofs.lemmas.Bool.{cases_lt}
 use Rattle.std.proofs.lemmas.List.{drop_all, drop_more, take_more, take_all}
-use Rattle.std.proofs.lemmas.Option.{slice_get_within}
 use Rattle.pts_points.specs.declared.point.CallInfo.{CallInfo}
 use Rattle.pts_points.specs.Standings.{HasPoint}
 use Rattle.pts_lowering.specs.declared.tasks.AssignPoints.{AssignPoints}
@@ -15,7 +13,7 @@ use Rattle.pts_lowering.specs.declared.tasks.LoweredTask.TheViews.{out-LoweredTa
 use Rattle.pts_program.specs.declared.lists.Lists.{Lists}
 use Rattle.pts_layout.specs.Layout.{HavePoints, IsWithin}
 use Rattle.pts_layout.specs.Layout.HavePoints.{none, wait, throw, assign, call, block, run}
-use Rattle.pts_conflict.specs.Concurrency.{IsPointOfTask, IsPointOfTasks, is_wait, phase, wait_form}
+use Rattle.pts_conflict.specs.Concurrency.{IsPointOfTask, IsPointOfTasks}
 use Rattle.pts_conflict.specs.Concurrency.IsPointOfTask.{assigned, in_call, in_block, in_run}
 use Rattle.pts_conflict.specs.Search.{EndsAt}
 use Rattle.pts_conflict.proofs.Elements.{first_or, here, nothing, there}
@@ -30,7 +28,7 @@ module _ (lists : Lists) where
   ordered (assign at e from some rest) = let k = ordered rest in omega (arith, from, some, k)
   ordered (call n info e there from rest) = let k = ordered rest in omega (arith, from, k)
   ordered (block n info e there from rest) = let k = ordered rest in omega (arith, from, k)
-  ordered (run body middle e inside rest) = let j = ordered inside, k = ordered rest in omega (arith, j, k)
+  ordered (run body middle e inside rest) = let j = ordered inside in let k = ordered rest in omega (arith, j, k)
 
   -- statements one behind the other
   pub both : {xs ys : List LoweredTask} {low middle end : ℕ} → HavePoints lists xs low middle → HavePoints lists ys middle end → HavePoints lists (xs ++ ys) low end
@@ -208,21 +206,26 @@ module _ (lists : Lists) where
     back = subst (λ ys. HavePoints lists ys end end) (sym (drop_all i xs all)) none;
   }
 
-  pub last_ends : (xs : List LoweredTask) (i at end : ℕ) (x d : LoweredTask) → Behind xs (i + 1) at end → i < length xs → x ≡ get_or xs i d → EndsAt lists (x ∷ []) at
-  last_ends xs i at end x d h within is =
-      let whole = subst (λ ys. HavePoints lists ys h.front.0 at) (take_more xs i d within) h.front.1 in
-      let p = parted (take i xs) (get_or xs i d ∷ []) h.front.0 at whole in
+  pub last_ends : (xs : List LoweredTask) (i at end : ℕ) (x d : LoweredTask) → Behind xs i at end → 0 < i → i - 1 < length xs → x ≡ get_or xs (i - 1) d → EndsAt lists (x ∷ []) at
+  last_ends xs i at end x d h some within is =
+      let next : i - 1 + 1 ≡ i = omega (arith, some) in
+      let front : take i xs ≡ take (i - 1) xs ++ get_or xs (i - 1) d ∷ [] = ap (λ n. take n xs) (sym next) ∙ take_more xs (i - 1) d within in
+      let whole = subst (λ ys. HavePoints lists ys h.front.0 at) front h.front.1 in
+      let p = parted (take (i - 1) xs) (get_or xs (i - 1) d ∷ []) h.front.0 at whole in
       (p.0, subst (λ y. HavePoints lists (y ∷ []) p.0 at) (sym is) p.2)
 
-  pub behind_more : (xs : List LoweredTask) (i at end low : ℕ) (x d : LoweredTask) → Behind xs (i + 1) at end → i < length xs → x ≡ get_or xs i d → HavePoints lists (x ∷ []) low at → Behind xs i low end
-  behind_more xs i at end low x d h within is here =
-      let whole = subst (λ ys. HavePoints lists ys h.front.0 at) (take_more xs i d within) h.front.1 in
-      let p = parted (take i xs) (get_or xs i d ∷ []) h.front.0 at whole in
-      let mine : HavePoints lists (get_or xs i d ∷ []) low at = subst (λ y. HavePoints lists (y ∷ []) low at) is here in
-      let same : p.0 ≡ low = one_low (get_or xs i d ∷ []) p.0 low at p.2 mine in
+  pub behind_more : (xs : List LoweredTask) (i at end low : ℕ) (x d : LoweredTask) → Behind xs i at end → 0 < i → i - 1 < length xs → x ≡ get_or xs (i - 1) d → HavePoints lists (x ∷ []) low at → Behind xs (i - 1) low end
+  behind_more xs i at end low x d h some within is here =
+      let next : i - 1 + 1 ≡ i = omega (arith, some) in
+      let front : take i xs ≡ take (i - 1) xs ++ get_or xs (i - 1) d ∷ [] = ap (λ n. take n xs) (sym next) ∙ take_more xs (i - 1) d within in
+      let back : drop (i - 1) xs ≡ get_or xs (i - 1) d ∷ drop i xs = drop_more xs (i - 1) d within ∙ ap (λ n. get_or xs (i - 1) d ∷ drop n xs) next in
+      let whole = subst (λ ys. HavePoints lists ys h.front.0 at) front h.front.1 in
+      let p = parted (take (i - 1) xs) (get_or xs (i - 1) d ∷ []) h.front.0 at whole in
+      let mine : HavePoints lists (get_or xs (i - 1) d ∷ []) low at = subst (λ y. HavePoints lists (y ∷ []) low at) is here in
+      let same : p.0 ≡ low = one_low (get_or xs (i - 1) d ∷ []) p.0 low at p.2 mine in
       record {
-        front = (h.front.0, subst (HavePoints lists (take i xs) h.front.0) same p.1);
-        back = subst (λ ys. HavePoints lists ys low end) (sym (drop_more xs i d within)) (both mine h.back);
+        front = (h.front.0, subst (HavePoints lists (take (i - 1) xs) h.front.0) same p.1);
+        back = subst (λ ys. HavePoints lists ys low end) (sym back) (both mine h.back);
       }
 
   pub behind_none : (xs : List LoweredTask) (at end : ℕ) → Behind xs 0 at end → HavePoints lists xs at end
@@ -231,7 +234,7 @@ module _ (lists : Lists) where
   -- ---- which numbers are those of a statement
 
   assigns : (x : LoweredTask) (at : AssignPoints) (k : ℕ) → out-LoweredTask x ≡ LoweredTask-F.Assign at → IsPointOfTask lists k x → (at.first ≤ k) × (k < at.write + 1)
-  assigns x at k e (assigned at' e' from to) = let s = sym e' ∙ e in let same : at' ≡ at = cc in let f = ap (λ y. y.first) same, w = ap (λ y. y.write) same in ((omega (arith, from, f)), (omega (arith, to, w)))
+  assigns x at k e (assigned at' e' from to) = let s = sym e' ∙ e in let same : at' ≡ at = cc in let f = ap (λ y. y.first) same in let w = ap (λ y. y.write) same in ((omega (arith, from, f)), (omega (arith, to, w)))
   assigns x at k e (in_call n info e' there point) = absurd (let s = sym e' ∙ e in cc)
   assigns x at k e (in_block n info e' there point) = absurd (let s = sym e' ∙ e in cc)
   assigns x at k e (in_run body y e' there point) = absurd (let s = sym e' ∙ e in cc)
@@ -280,23 +283,23 @@ module _ (lists : Lists) where
 
   pub inside : {xs : List LoweredTask} {low end : ℕ} (k : ℕ) → HavePoints lists xs low end → IsPointOfTasks lists xs k → (low ≤ k) × (k < end)
   inside k none h = absurd (nothing h.0 h.1)
-  inside {x ∷ xs} k (wait e rest) h = elim (one_of x xs k h) [ inl p ↦ absurd (quiet x k (inl e) p) | inr p ↦ inside k rest p ]
-  inside {x ∷ xs} k (throw code e rest) h = elim (one_of x xs k h) [ inl p ↦ absurd (quiet x k (inr (code, e)) p) | inr p ↦ inside k rest p ]
-  inside {x ∷ xs} {low} {end} k (assign at e from some rest) h = elim (one_of x xs k h) [
-    | inl p ↦ (let b = assigns x at k e p, o = ordered rest, l = b.0, r = b.1 in ((omega (arith, from, l)), (omega (arith, o, r))))
-    | inr p ↦ (let b = inside k rest p, l = b.0, r = b.1 in ((omega (arith, from, some, l)), r))
+  inside {xs = x ∷ xs} k (wait e rest) h = elim (one_of x xs k h) [ inl p ↦ absurd (quiet x k (inl e) p) | inr p ↦ inside k rest p ]
+  inside {xs = x ∷ xs} k (throw code e rest) h = elim (one_of x xs k h) [ inl p ↦ absurd (quiet x k (inr (code, e)) p) | inr p ↦ inside k rest p ]
+  inside {xs = x ∷ xs} {low = low} {end = end} k (assign at e from some rest) h = elim (one_of x xs k h) [
+    | inl p ↦ (let b = assigns x at k e p in let o = ordered rest in let l = b.0 in let r = b.1 in ((omega (arith, from, l)), (omega (arith, o, r))))
+    | inr p ↦ (let b = inside k rest p in let l = b.0 in let r = b.1 in ((omega (arith, from, some, l)), r))
   ]
-  inside {x ∷ xs} {low} {end} k (call n info e there from rest) h = elim (one_of x xs k h) [
-    | inl p ↦ (let b = calls x n info k e there p in let l = b.from, r = b.before, o = ordered rest in ((omega (arith, from, l)), (omega (arith, o, r))))
-    | inr p ↦ (let b = inside k rest p, l = b.0, r = b.1 in ((omega (arith, from, l)), r))
+  inside {xs = x ∷ xs} {low = low} {end = end} k (call n info e there from rest) h = elim (one_of x xs k h) [
+    | inl p ↦ (let b = calls x n info k e there p in let l = b.from in let r = b.before in let o = ordered rest in ((omega (arith, from, l)), (omega (arith, o, r))))
+    | inr p ↦ (let b = inside k rest p in let l = b.0 in let r = b.1 in ((omega (arith, from, l)), r))
   ]
-  inside {x ∷ xs} {low} {end} k (block n info e there from rest) h = elim (one_of x xs k h) [
-    | inl p ↦ (let b = blocks x n info k e there p in let l = b.from, r = b.before, o = ordered rest in ((omega (arith, from, l)), (omega (arith, o, r))))
-    | inr p ↦ (let b = inside k rest p, l = b.0, r = b.1 in ((omega (arith, from, l)), r))
+  inside {xs = x ∷ xs} {low = low} {end = end} k (block n info e there from rest) h = elim (one_of x xs k h) [
+    | inl p ↦ (let b = blocks x n info k e there p in let l = b.from in let r = b.before in let o = ordered rest in ((omega (arith, from, l)), (omega (arith, o, r))))
+    | inr p ↦ (let b = inside k rest p in let l = b.0 in let r = b.1 in ((omega (arith, from, l)), r))
   ]
-  inside {x ∷ xs} {low} {end} k (run body middle e within rest) h = elim (one_of x xs k h) [
-    | inl p ↦ (let b = inside k within (runs x body k e p), o = ordered rest, l = b.0, r = b.1 in (l, (omega (arith, o, r))))
-    | inr p ↦ (let b = inside k rest p, o = ordered within, l = b.0, r = b.1 in ((omega (arith, o, l)), r))
+  inside {xs = x ∷ xs} {low = low} {end = end} k (run body middle e within rest) h = elim (one_of x xs k h) [
+    | inl p ↦ (let b = inside k within (runs x body k e p) in let o = ordered rest in let l = b.0 in let r = b.1 in (l, (omega (arith, o, r))))
+    | inr p ↦ (let b = inside k rest p in let o = ordered within in let l = b.0 in let r = b.1 in ((omega (arith, o, l)), r))
   ]
 
   -- the point that a statement has is one of x ∷ xs, and so is one of xs
@@ -308,21 +311,21 @@ module _ (lists : Lists) where
 
   pub owned : {xs : List LoweredTask} {low end : ℕ} (k : ℕ) → HavePoints lists xs low end → low ≤ k → k < end → IsPointOfTasks lists xs k
   owned k none from to = absurd (omega (arith, from, to))
-  owned {x ∷ xs} k (wait e rest) from to = of_rest x xs k (owned k rest from to)
-  owned {x ∷ xs} k (throw code e rest) from to = of_rest x xs k (owned k rest from to)
-  owned {x ∷ xs} k (assign at e first some rest) from to = elim (cases_lt k (at.write + 1)) [
+  owned {xs = x ∷ xs} k (wait e rest) from to = of_rest x xs k (owned k rest from to)
+  owned {xs = x ∷ xs} k (throw code e rest) from to = of_rest x xs k (owned k rest from to)
+  owned {xs = x ∷ xs} k (assign at e first some rest) from to = elim (cases_lt k (at.write + 1)) [
     | inl less ↦ of_first x xs k (assigned at e (omega (arith, first, from)) (omega (arith, less)))
     | inr more ↦ of_rest x xs k (owned k rest more to)
   ]
-  owned {x ∷ xs} k (call n info e there first rest) from to = elim (cases_lt k (info.first_point + info.points)) [
+  owned {xs = x ∷ xs} k (call n info e there first rest) from to = elim (cases_lt k (info.first_point + info.points)) [
     | inl less ↦ of_first x xs k (in_call n info e there (record { from = omega (arith, first, from); before = less }))
     | inr more ↦ of_rest x xs k (owned k rest more to)
   ]
-  owned {x ∷ xs} k (block n info e there first rest) from to = elim (cases_lt k (info.first_point + info.points)) [
+  owned {xs = x ∷ xs} k (block n info e there first rest) from to = elim (cases_lt k (info.first_point + info.points)) [
     | inl less ↦ of_first x xs k (in_block n info e there (record { from = omega (arith, first, from); before = less }))
     | inr more ↦ of_rest x xs k (owned k rest more to)
   ]
-  owned {x ∷ xs} k (run body middle e within rest) from to = elim (cases_lt k middle) [
+  owned {xs = x ∷ xs} k (run body middle e within rest) from to = elim (cases_lt k middle) [
     | inl less ↦ (let p = owned k within from less in of_first x xs k (in_run body p.0 e p.1 p.2))
     | inr more ↦ of_rest x xs k (owned k rest more to)
   ]

@@ -39,7 +39,8 @@ pub record AreConcurrent (lists : Lists) (item k m : ℕ) : Type 0 where
   pub block : LoweredBlock
   pub there : Contains lists.lowered_blocks block
   pub of_item : block.item ≡ item
-  pub front rest : List LoweredTask
+  pub front : List LoweredTask
+  pub rest : List LoweredTask
   pub task : LoweredTask
   pub tasks : List LoweredTask
   pub stands : block.body ≡ front ++ task ∷ rest

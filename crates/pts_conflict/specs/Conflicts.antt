@@ -1,5 +1,5 @@
 -- Conflicts: two unordered evaluations that touch one cell, one of which writes it.
-use Rattle.std.specs.Prelude.{◌≡◌, ◌≢◌, ℕ, zero, suc, ◌<◌, Bool, true, false, ◌&&◌, ◌||◌, not, ltb, eqb, Option, Some, None, List, [], ◌∷◌, slice_get}
+use Rattle.std.specs.Prelude.{◌≡◌, ◌≢◌, ℕ, ◌<◌, Bool, true, false, ◌&&◌, ◌||◌, not, ltb, eqb, Option, Some, None, List, [], ◌∷◌, slice_get}
 use Rattle.std.specs.List.{Contains}
 use Rattle.pts_types.specs.declared.operation.Policy.{Policy}
 use Rattle.pts_types.specs.declared.operation.Policy.TheVariants as policies
@@ -49,7 +49,8 @@ is_loop lists c = is_loop_form (slice_get lists.lowered_calls c)
 -- Two cells of clauses do not conflict.
 pub record CallConflict (lists : Lists) (c : ℕ) (x : Pair) : Type 0 where
   pub call : CallInfo
-  pub a b : PointInfo
+  pub a : PointInfo
+  pub b : PointInfo
   pub there : slice_get lists.calls c ≡ Some call
   pub policy : call.policy ≢ policies.Seq
   pub first : Contains lists.points a
@@ -65,7 +66,8 @@ pub record CallConflict (lists : Lists) (c : ℕ) (x : Pair) : Type 0 where
 
 -- In a block, points a and b of parts that are concurrent meet, at whatever positions and under whatever policies.
 pub record PartConflict (lists : Lists) (x : Pair) : Type 0 where
-  pub a b : PointInfo
+  pub a : PointInfo
+  pub b : PointInfo
   pub first : Contains lists.points a
   pub second : Contains lists.points b
   pub one_item : b.item ≡ a.item

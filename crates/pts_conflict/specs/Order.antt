@@ -1,5 +1,5 @@
 -- Which evaluations of a call are sequenced before which, by the policy of the call.
-use Rattle.std.specs.Prelude.{ℕ, Bool, true, false, ◌&&◌, ◌||◌, not, if◌then◌else◌, eqb, nat_lt, Option, Some, None, List}
+use Rattle.std.specs.Prelude.{ℕ, Bool, true, false, ◌&&◌, ◌||◌, not, if◌then◌else◌, eqb, nat_lt, Option, Some, List}
 use Rattle.std.specs.List.{list_any}
 use Rattle.pts_types.specs.declared.operation.Policy.{Policy}
 use Rattle.pts_types.specs.declared.operation.Policy.TheVariants as policies

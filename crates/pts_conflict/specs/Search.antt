@@ -1,5 +1,5 @@
 -- What the search goes by: first ones of those of which something holds.
-use Rattle.std.specs.Prelude.{◌≡◌, ◌≢◌, ℕ, ◌<◌, ◌⊎◌, ◌↔◌, Bool, true, false, IsTrue, ◌&&◌, ◌||◌, if◌then◌else◌, IsSomeAnd, MatchOption, Option, Some, None, List, [], ◌∷◌, ◌++◌, drop, length, slice_get, slice_range, pos}
+use Rattle.std.specs.Prelude.{◌≡◌, ℕ, ◌<◌, ◌⊎◌, ◌↔◌, Bool, true, false, ◌&&◌, ◌||◌, if◌then◌else◌, IsSomeAnd, MatchOption, Option, Some, None, List, [], ◌∷◌, drop, length, slice_get, pos}
 use Rattle.pts_affine.specs.declared.line.Line.{Line}
 use Rattle.pts_affine.specs.Equations.{IsWanted}
 use Rattle.pts_affine.specs.Lines.{IsBounded, cell}
@@ -19,7 +19,7 @@ use Rattle.pts_conflict.specs.declared.found.Found.{Found}
 use Rattle.pts_conflict.specs.declared.meeting.Meeting.{Meeting}
 use Rattle.pts_conflict.specs.Concurrency.{IsPointOfTasks, is_wait, phase}
 use Rattle.pts_conflict.specs.Conflicts.{CallConflict, Conflicts, Names, are_ordered, is_at_most, rank}
-use Rattle.pts_conflict.specs.Touches.{is_live_out, is_writing, positions_beside, positions_in_call}
+use Rattle.pts_conflict.specs.Touches.{is_live_out, is_writing}
 
 -- ---- first ones
 
@@ -91,14 +91,14 @@ pub record MeetAlong (after : Bool) (a : PointInfo) (first : Line) (b : PointInf
 
 -- points a and b of a call that does not run in order conflict in it
 pub record PairInCall (number : ℕ) (call : CallInfo) (is_loop : Bool) (a b : PointInfo) (x : Found) : Type 0 where
-  pub call : x.call ≡ Some number
+  pub of_call : x.call ≡ Some number
   pub meet : MeetAlong true a (line_in_call call a.form a.line) b (line_in_call call b.form b.line) x.pair
   pub single : (is_live_out a.form && is_live_out b.form) ≡ false
   pub unordered : are_ordered call.policy is_loop a b ≡ false
 
 -- points a and b of two parts conflict
 pub record PairOfParts (a b : PointInfo) (x : Found) : Type 0 where
-  pub call : x.call ≡ None
+  pub of_call : x.call ≡ None
   pub meet : MeetAlong false a (line_beside a.form a.line) b (line_beside b.form b.line) x.pair
 
 abbrev pub rank_of : Found → List ℕ
@@ -140,8 +140,10 @@ phase_end task low stop = if is_wait task then low else stop
 pub record Forks (lists : Lists) (points : List PointInfo) (task : LoweredTask) (rest : List LoweredTask) (x : Found) : Type 0 where
   pub tasks : List LoweredTask
   pub runs : out-LoweredTask task ≡ LoweredTask-F.Run tasks
-  pub k m : ℕ
-  pub a b : PointInfo
+  pub k : ℕ
+  pub m : ℕ
+  pub a : PointInfo
+  pub b : PointInfo
   pub first : IsPointOfTasks lists tasks k
   pub second : IsPointOfTasks lists (phase rest) m
   pub first_point : slice_get points k ≡ Some a

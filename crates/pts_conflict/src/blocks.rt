@@ -1,6 +1,8 @@
 //! The first conflict between parts of a block.
 
-ghost use Rattle.std.specs.Prelude.{◌≡◌, ◌≤◌, ◌<◌, ◌+◌, All, List, [], ◌∷◌, length};
+ghost use Rattle.std.specs.Prelude.{◌≡◌, ◌≤◌, ◌<◌, ◌+◌, All, List, [], ◌∷◌, Some, length, slice_get};
+ghost use Rattle.pts_points.specs.declared.point.CallInfo.{CallInfo as CallValue};
+ghost use Rattle.pts_lowering.specs.declared.tasks.LoweredBlock.{LoweredBlock as BlockValue};
 ghost use Rattle.pts_lowering.specs.declared.tasks.LoweredTask.{LoweredTask as Task};
 ghost use Rattle.pts_layout.specs.Layout.{HavePoints, IsInOrder};
 ghost use Rattle.pts_conflict.specs.Concurrency as concurrency;
@@ -14,11 +16,28 @@ use pts_lowering::{LoweredBlock, LoweredTask};
 use pts_points::PointInfo;
 use pts_program::Program;
 
-// The first point of statements whose points end before this one.
+fn first_of_call(program: &Program, call: u32, end: usize) -> usize
+    ensures { (info : CallValue) → slice_get program.now.calls call ≡ Some info → result ≡ info.first_point }
+{
+    match program.calls().get(call as usize) {
+        Some(info) => info.first_point as usize,
+        None => end,
+    }
+}
+
+fn first_of_block(program: &Program, block: u32, end: usize) -> usize
+    ensures { (info : BlockValue) → slice_get program.now.lowered_blocks block ≡ Some info → result ≡ info.first_point }
+{
+    match program.lowered_blocks().get(block as usize) {
+        Some(info) => info.first_point as usize,
+        None => end,
+    }
+}
+
+// The first point of statements, if their points end before this one.
 #[cycle(first_point)]
 fn first_point_of(program: &Program, tasks: &[LoweredTask], end: usize) -> usize
-    requires { EndsAt program.now tasks.now end }
-    ensures { HavePoints program.now tasks.now result end }
+    ensures { EndsAt program.now tasks.now end → HavePoints program.now tasks.now result end }
 {
     let mut at = end;
     for i in (0..tasks.len()).rev() {
@@ -30,16 +49,15 @@ fn first_point_of(program: &Program, tasks: &[LoweredTask], end: usize) -> usize
 // The same of one statement.
 #[cycle(first_point)]
 fn first_point(program: &Program, task: &LoweredTask, end: usize) -> usize
-    requires { EndsAt program.now (task.now ∷ []) end }
-    ensures { HavePoints program.now (task.now ∷ []) result end }
+    ensures { EndsAt program.now (task.now ∷ []) end → HavePoints program.now (task.now ∷ []) result end }
 {
     match task {
         LoweredTask::Run(tasks) => first_point_of(program, tasks.as_slice(), end),
         LoweredTask::Wait => end,
         LoweredTask::Throw(_) => end,
         LoweredTask::Assign(at) => at.first as usize,
-        LoweredTask::Call(call) => program.calls()[*call as usize].first_point as usize,
-        LoweredTask::Block(block) => program.lowered_blocks()[*block as usize].first_point as usize,
+        LoweredTask::Call(call) => first_of_call(program, *call, end),
+        LoweredTask::Block(block) => first_of_block(program, *block, end),
     }
 }
 
@@ -57,6 +75,7 @@ fn is_wait(task: &LoweredTask) -> bool
 
 // The first conflict of what a statement runs with what is behind it in its phase, where the points of the statement begin at
 // `low`, those behind it at `at`, and the phase ends at `stop`.
+#[tactic(auto, using(crate::proofs::TaskPoints::ordered, crate::proofs::Forking::none_forks, crate::proofs::Forking::some_forks))]
 fn least_of_run(
     program: &Program,
     task: &LoweredTask,
@@ -98,9 +117,10 @@ fn least_of_body(program: &Program, block: &LoweredBlock, points: &[PointInfo]) 
     let mut stop = at;
     let body = block.body.as_slice();
     for i in (0..body.len()).rev() {
-        let low = first_point(program, &body[i], at);
-        best = lower(best, least_of_run(program, &body[i], points, low, at, stop));
-        stop = phase_end(&body[i], low, stop);
+        let task = &body[i];
+        let low = first_point(program, task, at);
+        best = lower(best, least_of_run(program, task, points, low, at, stop));
+        stop = phase_end(task, low, stop);
         at = low;
     }
     best

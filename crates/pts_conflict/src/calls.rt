@@ -1,6 +1,6 @@
 //! The first conflict in a call.
 
-ghost use Rattle.std.specs.Prelude.{◌≡◌, ◌<◌, false, length, slice_get, Some};
+ghost use Rattle.std.specs.Prelude.{◌≡◌, ◌≢◌, ◌<◌, ◌≤◌, ◌+◌, true, false, length, slice_range};
 ghost use Rattle.pts_conflict.specs.Conflicts as conflicts;
 ghost use Rattle.pts_conflict.specs.Search.{FindsFirst, InCallOf, InSomeCall, rank_of};
 
@@ -8,6 +8,7 @@ use crate::found::{Found, lower};
 use crate::places::points_before;
 use crate::search::{InCall, least_across};
 use pts_lowering::LoweredCall;
+use pts_points::PointInfo;
 use pts_program::Program;
 use pts_types::Policy;
 
@@ -18,21 +19,38 @@ fn is_loop(program: &Program, call: usize) -> bool
     matches!(program.lowered_calls()[call], LoweredCall::Loop(_))
 }
 
-fn least_in(program: &Program, number: u32) -> Option<Found>
+fn runs_in_order(policy: Policy) -> bool
+    ensures yes { result ≡ true → policy ≡ Policy.Seq }
+    ensures no { result ≡ false → policy ≢ Policy.Seq }
+{
+    matches!(policy, Policy::Seq)
+}
+
+fn part(points: &[PointInfo], start: usize, count: usize) -> &[PointInfo]
+    requires { start + count ≤ length points.now }
+    ensures { result.now ≡ slice_range points.now start (start + count) }
+{
+    &points[start..start + count]
+}
+
+fn least_in(program: &Program, number: usize) -> Option<Found>
     requires { number < length program.now.calls }
     ensures { FindsFirst (InCallOf program.now number) rank_of result }
 {
     program.keeps_its_promises();
-    let call = program.calls()[number as usize];
-    if call.policy == Policy::Seq || call.points == 0 {
+    let call = &program.calls()[number];
+    if runs_in_order(call.policy) {
+        return None;
+    }
+    if call.points == 0 {
         return None;
     }
     let start = points_before(program.points(), call.item) + call.first_point as usize;
-    let points = &program.points()[start..start + call.points as usize];
+    let points = part(program.points(), start, call.points as usize);
     let pairs = InCall {
         number,
-        call,
-        is_loop: is_loop(program, number as usize),
+        call: *call,
+        is_loop: is_loop(program, number),
     };
     least_across(&pairs, points, points)
 }
@@ -43,7 +61,7 @@ pub fn least_in_calls(program: &Program) -> Option<Found>
 {
     let mut best = None;
     for number in 0..program.calls().len() {
-        best = lower(best, least_in(program, number as u32));
+        best = lower(best, least_in(program, number));
     }
     best
 }

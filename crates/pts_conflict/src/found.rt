@@ -9,22 +9,26 @@ use crate::pair::Pair;
 /// A conflicting pair, and the call that it is in; none where it is between parts of a block.
 #[derive(Clone, Copy, Debug, PartialEq, Eq)]
 pub struct Found {
-    pub call: Option<u32>,
+    pub call: Option<usize>,
     pub pair: Pair,
 }
 
 // The numbers that say which conflict comes first.
-fn rank(found: Found) -> [u32; 8]
+fn rank(found: Found) -> [u64; 8]
     ensures { result ≡ spec.rank_of found }
 {
-    let x = found.pair;
+    let pair = found.pair;
+    let item = u64::from(pair.item);
+    let (p, q) = (u64::from(pair.p), u64::from(pair.q));
+    let (k, m) = (u64::from(pair.k), u64::from(pair.m));
+    let cell = u64::from(pair.cell);
     match found.call {
-        Some(call) => [x.item, 0, call, x.p, x.q, x.k, x.m, x.cell],
-        None => [x.item, 1, x.k, x.m, x.p, x.q, x.cell, 0],
+        Some(call) => [item, 0, call as u64, p, q, k, m, cell],
+        None => [item, 1, k, m, p, q, cell, 0],
     }
 }
 
-fn is_at_most(xs: &[u32; 8], ys: &[u32; 8]) -> bool
+fn is_at_most(xs: &[u64; 8], ys: &[u64; 8]) -> bool
     ensures { result ≡ conflicts.is_at_most xs.now ys.now }
 {
     for i in 0..xs.len() {

@@ -8,7 +8,7 @@
 
 mod blocks;
 mod calls;
-mod clear;
+mod clearing;
 mod found;
 mod laws;
 mod meeting;
@@ -20,6 +20,6 @@ mod search;
 #[cfg(test)]
 mod tests;
 
-pub use clear::{ClearFault, Cleared, clear};
+pub use clearing::{ClearFault, Cleared, clear};
 pub use laws::one_least_conflict;
 pub use pair::Pair;

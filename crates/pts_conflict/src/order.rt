@@ -10,6 +10,7 @@ use pts_points::{Branch, PointInfo};
 use pts_types::Policy;
 
 /// Whether two points stand in opposite branches of one `if`, by one pass over both lists of tests, which ascend.
+#[tactic(auto, using(crate::proofs::Opposites::step_first, crate::proofs::Opposites::step_second, crate::proofs::Opposites::step_both, crate::proofs::Opposites::stops, crate::proofs::Opposites::ends_first, crate::proofs::Opposites::ends_second))]
 pub fn are_opposite(first: &[Branch], second: &[Branch]) -> bool
     requires first { (n : ℕ) × Ascends 0 first.now n }
     requires second { (n : ℕ) × Ascends 0 second.now n }

@@ -27,8 +27,21 @@ pub fn is_live_out(form: PointForm) -> bool
     matches!(form, PointForm::LiveOut)
 }
 
+fn one_writes(a: &PointInfo, b: &PointInfo) -> bool
+    ensures { result ≡ (touches.is_writing a.now.form || touches.is_writing b.now.form) }
+{
+    is_writing(a.form) || is_writing(b.form)
+}
+
+fn are_clauses(a: &PointInfo, b: &PointInfo) -> bool
+    ensures { result ≡ (touches.is_live_out a.now.form && touches.is_live_out b.now.form) }
+{
+    is_live_out(a.form) && is_live_out(b.form)
+}
+
 const NO_CELLS: Line = Line { c: 0, d: 0, n: 0 };
 
+#[tactic(auto, using(crate::proofs::Clashes::bounded_again, crate::proofs::Clashes::bounded_none))]
 fn line_in_call(call: &CallInfo, form: PointForm, line: Line) -> Line
     requires few { call.now.positions ≤ 2 ^ 20 }
     requires bounded { IsBounded line }
@@ -46,6 +59,7 @@ fn line_in_call(call: &CallInfo, form: PointForm, line: Line) -> Line
     }
 }
 
+#[tactic(auto, using(crate::proofs::Clashes::bounded_none))]
 fn line_beside(form: PointForm, line: Line) -> Line
     requires { IsBounded line }
     ensures line { result ≡ spec.line_beside form line }
@@ -58,29 +72,33 @@ fn line_beside(form: PointForm, line: Line) -> Line
 }
 
 // The least pair at which two points meet along these lines, one of them writing.
+#[tactic(auto, using(crate::proofs::Clashes::other_arrays, crate::proofs::Clashes::none_write, crate::proofs::Clashes::none_meet, crate::proofs::Clashes::some_meet))]
 fn least_pair(after: bool, a: &PointInfo, first: Line, b: &PointInfo, second: Line) -> Option<Pair>
     requires first { IsBounded first }
     requires second { IsBounded second }
     ensures { FindsFirst (MeetAlong after a.now first b.now second) spec.by_pair result }
 {
-    if a.array != b.array || !(is_writing(a.form) || is_writing(b.form)) {
+    if a.array != b.array || !one_writes(a, b) {
         return None;
     }
-    let meeting = least_meeting(after, first, second)?;
-    Some(Pair {
-        item: a.item,
-        array: a.array,
-        cell: meeting.cell,
-        p: meeting.p,
-        k: a.number,
-        q: meeting.q,
-        m: b.number,
-    })
+    match least_meeting(after, first, second) {
+        Some(meeting) => Some(Pair {
+            item: a.item,
+            array: a.array,
+            cell: meeting.cell,
+            p: meeting.p,
+            k: a.number,
+            q: meeting.q,
+            m: b.number,
+        }),
+        None => None,
+    }
 }
 
 /// The least conflict of two points in one call.
+#[tactic(auto, using(crate::proofs::Clashes::two_clauses, crate::proofs::Clashes::in_order, crate::proofs::Clashes::call_none, crate::proofs::Clashes::call_some))]
 pub fn least_in_call(
-    number: u32,
+    number: usize,
     call: &CallInfo,
     is_loop: bool,
     a: &PointInfo,
@@ -91,19 +109,22 @@ pub fn least_in_call(
     requires second { IsFit b.now }
     ensures { FindsFirst (PairInCall number call.now is_loop a.now b.now) rank_of result }
 {
-    if is_live_out(a.form) && is_live_out(b.form) || are_ordered(call.policy, is_loop, a, b) {
+    if are_clauses(a, b) || are_ordered(call.policy, is_loop, a, b) {
         return None;
     }
     let first = line_in_call(call, a.form, a.line);
     let second = line_in_call(call, b.form, b.line);
-    let pair = least_pair(true, a, first, b, second)?;
-    Some(Found {
-        call: Some(number),
-        pair,
-    })
+    match least_pair(true, a, first, b, second) {
+        Some(pair) => Some(Found {
+            call: Some(number),
+            pair,
+        }),
+        None => None,
+    }
 }
 
 /// The least conflict of two points of parts that are concurrent.
+#[tactic(auto, using(crate::proofs::Clashes::parts_none, crate::proofs::Clashes::parts_some))]
 pub fn least_of_parts(a: &PointInfo, b: &PointInfo) -> Option<Found>
     requires first { IsFit a.now }
     requires second { IsFit b.now }
@@ -111,6 +132,8 @@ pub fn least_of_parts(a: &PointInfo, b: &PointInfo) -> Option<Found>
 {
     let first = line_beside(a.form, a.line);
     let second = line_beside(b.form, b.line);
-    let pair = least_pair(false, a, first, b, second)?;
-    Some(Found { call: None, pair })
+    match least_pair(false, a, first, b, second) {
+        Some(pair) => Some(Found { call: None, pair }),
+        None => None,
+    }
 }

@@ -26,7 +26,7 @@ pub trait Pairs {
 /// Pairs of one call, which does not run in order.
 #[derive(Clone, Copy, Debug)]
 pub struct InCall {
-    pub number: u32,
+    pub number: usize,
     pub call: CallInfo,
     pub is_loop: bool,
 }
@@ -56,6 +56,7 @@ impl Pairs for BetweenParts {
 }
 
 // The first pair of this point and one of those.
+#[tactic(auto, using(crate::proofs::Firsts::turns))]
 fn least_beside<S: Pairs>(pairs: &S, a: &PointInfo, seconds: &[PointInfo]) -> Option<Found>
     requires fits { S.fits pairs.now }
     requires first { IsFit a.now }

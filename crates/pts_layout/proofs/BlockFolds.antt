@@ -1,5 +1,5 @@
 -- Every statement of a block, and every block, has its points; and so have the blocks of every program.
-use Rattle.std.proofs.Common.{◌≡◌, ℕ, ◌+◌, ◌<◌, ◌≤◌, ⊎_elim, Some, List, [], ◌∷◌, ◌++◌, length, map, refl, sym, ap, ◌∙◌, subst, arith}
+use Rattle.std.proofs.Common.{◌≡◌, ℕ, ◌+◌, ◌≤◌, ⊎_elim, Some, List, [], ◌∷◌, ◌++◌, length, map, refl, sym, ap, ◌∙◌, subst, arith}
 use Rattle.std.specs.Prelude.{All, false, flat_map, slice_get}
 use Rattle.std.proofs.lemmas.List.{length-append, length-map}
 use Rattle.std.proofs.lemmas.Option.{none-some}
@@ -17,7 +17,6 @@ use Rattle.pts_rules.specs.Scopes.{known}
 use Rattle.pts_rules.proofs.Tasks.{task_statements, statements-Run, statements-Wait, statements-Throw, statements-Assign, statements-Call, statements-Loop, statements-Block, statements-body}
 use Rattle.pts_constants.specs.Blocks.{blocks_of, inner_blocks, item_blocks, task_blocks}
 use Rattle.pts_constants.specs.Blocks as constants
-use Rattle.pts_points.specs.declared.point.CallInfo.{CallInfo}
 use Rattle.pts_points.specs.declared.point.PointInfo.{PointInfo}
 use Rattle.pts_points.specs.Building.{points_among}
 use Rattle.pts_points.specs.Points.{calls_of, info, item_points, points_of}
@@ -189,8 +188,9 @@ module _ (scope : Scope) (n : ℕ) (lists : Lists) (x : Item) (lines : is_not_af
       let end : b.first_point + b.points ≤ length new_points = at_place (λ y. y.first_point + y.points ≤ length new_points) new_lowered d b new.ends there in
       let before = has.before in
       let point = within new_points k (omega (arith, end, before)) in
+      let same : point.element.item ≡ n + 1 = at_place (λ y. y.item ≡ n + 1) new_points k point.element new_placed.own point.there in
       subst (λ m. StandsAt next.points m k (λ z. z.item ≡ m)) (sym own)
-      (now_stands n lists.points new_points old.placed new_placed k point.element (λ z. z.item ≡ n + 1) point.there (at_place (λ y. y.item ≡ n + 1) new_points k point.element new_placed.own point.there))
+      (now_stands n lists.points new_points old.placed new_placed k point.element (λ z. z.item ≡ n + 1) point.there same)
 
   all_stand : (m k : ℕ) (b : LoweredBlock) → slice_get next.lowered_blocks m ≡ Some b → IsWithin b k → StandsAt next.points b.item k (λ z. z.item ≡ b.item)
   all_stand m k b there has =

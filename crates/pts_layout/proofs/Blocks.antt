@@ -1,10 +1,11 @@
 -- The statements of each block have its points, one behind the other.
-use Rattle.std.proofs.Common.{◌≡◌, ℕ, suc, ◌+◌, ◌<◌, ◌≤◌, ◌||◌, false, Some, List, [], ◌∷◌, ◌++◌, length, map, refl, sym, ap, ◌∙◌, subst, append_assoc, arith}
-use Rattle.std.specs.Prelude.{flat_map, slice_get, sum}
+use Rattle.std.proofs.Common.{◌≡◌, ℕ, ◌+◌, ◌≤◌, false, Some, List, [], ◌∷◌, ◌++◌, length, refl, sym, ap, ◌∙◌, subst, append_assoc, arith}
+use Rattle.std.specs.Prelude.{slice_get, sum}
 use Rattle.std.specs.List.{list_any}
 use Rattle.std.proofs.lemmas.Bool.{or_parts}
 use Rattle.std.proofs.lemmas.List.{length-append}
 use Rattle.std.proofs.lemmas.List.Folds.{list_any-append}
+use Rattle.pts_types.specs.declared.operation.Policy.{Policy}
 use Rattle.pts_tree.specs.declared.sum.Cell.{Cell}
 use Rattle.pts_tree.specs.declared.call.Call as call
 use Rattle.pts_tree.specs.declared.expr.Expr.{Expr}
@@ -18,7 +19,7 @@ use Rattle.pts_code.specs.Values.{throw_code}
 use Rattle.pts_points.specs.declared.point.CallInfo.{CallInfo}
 use Rattle.pts_points.specs.Building.{calls_among, points_among}
 use Rattle.pts_points.specs.Lines.{line_of_range, no_loop, space_of}
-use Rattle.pts_points.specs.Points.{call_at, calls_from, calls_in, statement_piece}
+use Rattle.pts_points.specs.Points.{call_at, call_info, calls_from, calls_in, statement_piece}
 use Rattle.pts_points.proofs.Countings.{points_counted}
 use Rattle.pts_points.proofs.Each.{Each, both, weaker}
 use Rattle.pts_points.proofs.StatementTurns.{calls_count}
@@ -164,7 +165,8 @@ module _ (scope : Scope) (item : ℕ) (lists : Lists) where
           lines = lines.1;
           calls =
               subst (λ n. IsPart lists.calls (at.calls + p.takes.calls) (calls_from scope item (at.points + n) ts)) (sym size)
-              (back_part lists.calls at.calls (at.calls + p.takes.calls) (calls_from scope item at.points ss) (calls_from scope item (at.points + points_among scope ss) ts) (omega (arith, count, calls))
+              (back_part lists.calls at.calls (at.calls + p.takes.calls) (calls_from scope item at.points ss) (calls_from scope item (at.points + points_among scope ss) ts)
+              (omega (arith, count, calls))
               (subst (IsPart lists.calls at.calls) (calls_apart scope item at.points ss ts) h.calls));
           inside = back_part lists.lowered_blocks at.blocks (at.blocks + p.takes.blocks) (p.blocks at) (inner ps (next at)) (omega (arith, many, blocks)) h.inside;
         }
@@ -278,10 +280,10 @@ module _ (scope : Scope) (item : ℕ) (lists : Lists) where
         (from_start rest (at.points + (reads x + 1)) (at.points + reads x + 1) end (omega arith) after);
   }
 
-  -- a call or a loop of so many points
-  called : (s : Simple) (y : ℕ → CallInfo) → ((n : ℕ) → call_at scope item n s ≡ y n ∷ []) → ((n : ℕ) → (y n).first_point ≡ n) → ((n : ℕ) → (y n).points ≡ (statement_piece scope s).size) → calls_in s ≡ 1
+  -- a call or a loop
+  called : (s : Simple) (policy : Policy) (positions : ℕ) → ((n : ℕ) → call_at scope item n s ≡ call_info item policy positions n (statement_piece scope s).size) → calls_in s ≡ 1
       → (AreLines (s ∷ []) → statement_points s ≡ points_among scope (s ∷ [])) → Good (call_leaf (statement_points s)) (s ∷ []) 0
-  called s y is first many one count = record {
+  called s policy positions is one count = record {
     points = count;
     calls = omega (arith, one);
     blocks = refl;
@@ -290,27 +292,23 @@ module _ (scope : Scope) (item : ℕ) (lists : Lists) where
     ends = λ at. tt;
     order = λ at h. tt;
     stands = λ at h rest end after.
-        let there : slice_get lists.calls (at.calls + 0) ≡ Some (y at.points) =
-        (subst (λ zs. IsPart lists.calls at.calls (zs ++ [])) (is at.points) h.calls).at 0 (y at.points) refl in
+        let there : slice_get lists.calls (at.calls + 0) ≡ Some (own at) = (subst (λ zs. IsPart lists.calls at.calls (zs ++ [])) (is at.points) h.calls).at 0 (own at) refl in
         let same : at.calls + 0 ≡ at.calls = omega arith in
-        let low = first at.points in
-        let size = many at.points in
         let points = count h.lines in
-        layout.call at.calls (y at.points) (tasks.outs-Call at.calls) (subst (λ k. slice_get lists.calls k ≡ Some (y at.points)) same there) low
-        (from_start rest (at.points + statement_points s) ((y at.points).first_point + (y at.points).points) end (omega (arith, low, size, points)) after);
+        layout.call at.calls (own at) (tasks.outs-Call at.calls) (subst (λ k. slice_get lists.calls k ≡ Some (own at)) same there) refl
+        (from_start rest (at.points + statement_points s) (at.points + (statement_piece scope s).size) end (omega (arith, points)) after);
   }
+    where
+      own : Numbers → CallInfo
+      own at = record { item = item; policy = policy; positions = positions; first_point = at.points; points = (statement_piece scope s).size }
 
   one_sum : (n : ℕ) → sum (n ∷ []) ≡ n
   one_sum n = omega arith
 
   pub good_call : (x : call.Call) → Good (call_leaf (statement_points (Call x))) (Call x ∷ []) 0
   good_call x =
-      let s = Call x in
-      called s (λ n. record { item = item; policy = x.policy; positions = (line_of_range scope x.first).n; first_point = n; points = (statement_piece scope s).size }) (λ n. refl) (λ n. refl) (λ n. refl) refl
-      (λ h. sym (points_counted scope (items.Call x) h ∙ one_sum (statement_points s)))
+      called (Call x) x.policy (line_of_range scope x.first).n (λ n. refl) refl (λ h. sym (points_counted scope (items.Call x) h ∙ one_sum (statement_points (Call x))))
 
   pub good_loop : (x : loops.Loop) → Good (call_leaf (statement_points (Loop x))) (Loop x ∷ []) 0
   good_loop x =
-      let s = Loop x in
-      called s (λ n. record { item = item; policy = x.policy; positions = (space_of scope x).positions; first_point = n; points = (statement_piece scope s).size }) (λ n. refl) (λ n. refl) (λ n. refl) refl
-      (λ h. sym (points_counted scope (items.Loop x) h ∙ one_sum (statement_points s)))
+      called (Loop x) x.policy (space_of scope x).positions (λ n. refl) refl (λ h. sym (points_counted scope (items.Loop x) h ∙ one_sum (statement_points (Loop x))))

@@ -1,8 +1,7 @@
 -- The calls of a program and their points.
 use Rattle.std.proofs.Common.{◌≡◌, ℕ, ◌+◌, ◌-◌, ◌<◌, ◌≤◌, ⊎_elim, Option, Some, None, List, [], ◌∷◌, ◌++◌, length, refl, sym, ap, ◌∙◌, subst, arith}
 use Rattle.std.specs.Prelude.{IsSomeAnd, slice_get}
-use Rattle.std.proofs.lemmas.List.{length-append}
-use Rattle.std.proofs.lemmas.Option.{none-some, slice_get_within}
+use Rattle.std.proofs.lemmas.Option.{none-some}
 use Rattle.pts_tree.specs.declared.script.Item.{Item}
 use Rattle.pts_rules.specs.Known.{Scope}
 use Rattle.pts_rules.specs.Parts.{Simple, Throw, Assign, Call, Loop, statements}
@@ -11,7 +10,7 @@ use Rattle.pts_points.specs.declared.point.CallInfo.{CallInfo}
 use Rattle.pts_points.specs.declared.point.PointInfo.{PointInfo}
 use Rattle.pts_points.specs.Building.{calls_among}
 use Rattle.pts_points.specs.Pieces.{Point}
-use Rattle.pts_points.specs.Points.{call_at, calls_from, calls_in, calls_of, context_of, item_points, points_from, points_of, statement_piece}
+use Rattle.pts_points.specs.Points.{calls_from, calls_in, calls_of, context_of, item_points, points_from, points_of, statement_piece}
 use Rattle.pts_points.specs.Standings.{HasPoint}
 use Rattle.pts_points.proofs.CallLists.{points_named, points_within}
 use Rattle.pts_points.proofs.Each.{Each, at_place, both, weaker}

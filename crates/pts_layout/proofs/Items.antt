@@ -15,7 +15,7 @@ use Rattle.pts_points.specs.Points.{info, item_points, points_of}
 use Rattle.pts_points.proofs.Each.{Each, at_place, both, weaker}
 use Rattle.pts_points.proofs.PointLists.{number_shown}
 use Rattle.pts_program.specs.declared.lists.Lists.{Lists}
-use Rattle.pts_program.specs.Lists.{no_lists, IsProgram}
+use Rattle.pts_program.specs.Lists.{IsProgram}
 use Rattle.pts_program.proofs.ItemTurns.{IsTurn, by_items}
 use Rattle.pts_layout.specs.Layout.{StandsAt, points_before}
 use Rattle.pts_layout.proofs.Places.{InSecond, found, in_either, in_second, still_found}

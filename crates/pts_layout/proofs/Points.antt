@@ -1,5 +1,5 @@
 -- What holds of each point of an item holds of each point of a program; and how many positions a call has.
-use Rattle.std.proofs.Common.{◌≡◌, ℕ, ◌+◌, ◌^◌, ◌<◌, ◌≤◌, Some, List, [], ◌∷◌, ◌++◌, length, pos, refl, arith}
+use Rattle.std.proofs.Common.{◌≡◌, ℕ, ◌+◌, ◌^◌, ◌<◌, ◌≤◌, Some, List, [], ◌∷◌, length, pos, refl, arith}
 use Rattle.std.specs.Prelude.{◌≤ℤ◌, All, slice_get}
 use Rattle.std.proofs.lemmas.List.Elements.{All-head, All-nil, All-tail}
 use Rattle.pts_syntax.proofs.Writable.{few_items}

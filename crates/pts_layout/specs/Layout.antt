@@ -1,6 +1,5 @@
 -- Where points stand in the list of a program: item by item, in an item by their numbers, and so those of a call and of a block.
 use Rattle.std.specs.Prelude.{◌≡◌, ℕ, ◌+◌, ◌≤◌, ◌<◌, IsSomeAnd, nat_lt, count_by, Some, List, [], ◌∷◌, slice_get}
-use Rattle.std.specs.List.{Contains}
 use Rattle.pts_points.specs.declared.point.CallInfo.{CallInfo}
 use Rattle.pts_points.specs.declared.point.PointInfo.{PointInfo}
 use Rattle.pts_points.specs.Standings.{HasPoint}
@@ -16,12 +15,6 @@ use Rattle.pts_program.specs.declared.lists.Lists.{Lists}
 -- how many points belong to items before the one of this number
 abbrev pub points_before : List PointInfo → ℕ → ℕ
 points_before points item = count_by (λ x. nat_lt x.item item) points
-
--- this is point k of the item
-pub record IsPointOf (points : List PointInfo) (item k : ℕ) (x : PointInfo) : Type 0 where
-  pub there : Contains points x
-  pub of_item : x.item ≡ item
-  pub number : x.number ≡ k
 
 -- behind the points of the items before there is point k of the item
 abbrev pub StandsAt : List PointInfo → ℕ → ℕ → (PointInfo → Type 0) → Type 0

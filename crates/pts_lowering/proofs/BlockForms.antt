@@ -1,6 +1,5 @@
 -- The statements of blocks, form by form, and loops over them.
-use Rattle.std.proofs.Common.{◌≡◌, ℕ, ◌+◌, ◌-◌, ◌^◌, ◌<◌, ◌≤◌, List, [], ◌∷◌, ◌++◌, map, length, get_or, drop, refl, sym, ap, ◌∙◌, append_assoc, arith}
-use Rattle.std.specs.Prelude.{min}
+use Rattle.std.proofs.Common.{◌≡◌, ℕ, ◌+◌, ◌^◌, ◌<◌, ◌≤◌, List, [], ◌∷◌, ◌++◌, map, length, get_or, drop, refl, sym, ap, ◌∙◌, append_assoc, arith}
 use Rattle.std.proofs.lemmas.List.{append-nil, drop_more, drop_all}
 use Rattle.pts_tree.specs.declared.sum.Cell.{Cell}
 use Rattle.pts_tree.specs.declared.call.Call as call
@@ -9,7 +8,6 @@ use Rattle.pts_tree.specs.declared.loops.Loop as loops
 use Rattle.pts_tree.specs.declared.block.Block.{Block}
 use Rattle.pts_tree.specs.declared.block.TaskStmt.{TaskStmt}
 use Rattle.pts_tree.specs.declared.block.TaskStmt.TheVariants as t
-use Rattle.pts_tree.specs.declared.block.TaskStmt.TheFolds.{fold_out-Block}
 use Rattle.pts_rules.specs.Parts.{Call, Loop}
 use Rattle.pts_rules.specs.Counts.{statement_points}
 use Rattle.pts_rules.proofs.StatementFolds.{at-Run, at-Wait, at-Throw, at-cell, at-Call, at-Loop, at-Block, at-body}

@@ -1,19 +1,17 @@
 -- The numbers of ranges and cells of a sound statement.
 use Rattle.std.proofs.Common.{◌≡◌, ◌^◌, true, false, Bool, ◌&&◌, ◌||◌, ℤ, pos, Option, Some, None, List, ◌++◌, arith}
-use Rattle.std.specs.Prelude.{◌≤ℤ◌, ◌<ℤ◌, IfSome, IsTrue, is_some, int_lt, int_le, nat_lt}
+use Rattle.std.specs.Prelude.{◌≤ℤ◌, IfSome, IsTrue, is_some}
 use Rattle.std.proofs.lemmas.Bool.{and_parts, or_parts}
 use Rattle.std.proofs.lemmas.Int.{ints}
-use Rattle.pts_types.specs.Arithmetic.{greatest_i64}
-use Rattle.pts_affine.specs.Lines.{cell}
 use Rattle.pts_tree.specs.Spelling.{if_there}
 use Rattle.pts_tree.specs.declared.sum.Range.{Range}
 use Rattle.pts_tree.specs.declared.sum.Cell.{Cell}
 use Rattle.pts_tree.specs.declared.call.Call as call
 use Rattle.pts_rules.specs.Parts.{Call}
 use Rattle.pts_rules.specs.Known.{Scope, has, is_place, kind_of_array, number, sum_is, sum_value}
-use Rattle.pts_rules.specs.Indices.{Reach, Along, Span, cell_reach, leaves, length_of, range_reach, reach_of, reaches}
-use Rattle.pts_rules.specs.Mistyped.{call_right, form_right, range_right}
-use Rattle.pts_rules.specs.Steps.{goes_backward, is_backward}
+use Rattle.pts_rules.specs.Indices.{Reach, Along, cell_reach, leaves, length_of, range_reach, reach_of, reaches}
+use Rattle.pts_rules.specs.Mistyped.{form_right, range_right}
+use Rattle.pts_rules.specs.Steps.{is_backward}
 use Rattle.pts_points.specs.Inside.{HasRoom, IsSound}
 use Rattle.pts_points.proofs.Each.{Each, front, back}
 use Rattle.pts_points.proofs.Interiors.{Stays, each_stays}

@@ -1,5 +1,5 @@
 -- The clauses of a sound loop, and the numbers of its head.
-use Rattle.std.proofs.Common.{◌≡◌, ℕ, ◌-◌, ◌^◌, ◌<◌, ◌≤◌, true, false, Bool, ◌&&◌, ℤ, pos, Option, Some, None, List, [], ◌∷◌, ◌++◌, length, get_or, map, refl, sym, subst, arith}
+use Rattle.std.proofs.Common.{◌≡◌, ℕ, ◌-◌, ◌^◌, ◌<◌, ◌≤◌, true, Bool, ◌&&◌, pos, Option, Some, None, List, [], ◌∷◌, length, get_or, map, refl, sym, subst, arith}
 use Rattle.std.specs.Prelude.{All, IsTrue, flat_map, unwrap_or}
 use Rattle.std.specs.List.{list_all}
 use Rattle.std.proofs.lemmas.Bool.{and_parts}
@@ -18,8 +18,8 @@ use Rattle.pts_tree.specs.declared.loops.Initial.TheVariants as initials
 use Rattle.pts_rules.specs.Parts.{Loop}
 use Rattle.pts_rules.specs.Known.{Scope, has, holds, is_number, kind_of_array, number, sum_is, sum_value, val_fits}
 use Rattle.pts_rules.specs.Counts.{loop_positions, step_of}
-use Rattle.pts_rules.specs.Indices.{Reach, clause_reach, cell_reach, loop_line, place_reach, places, reaches}
-use Rattle.pts_rules.specs.Mistyped.{all_right, body_scope, cell_right, checked_stmt, clause_right, induct_right, initial_right, loop_right, op_right, reduce_right}
+use Rattle.pts_rules.specs.Indices.{clause_reach, cell_reach, loop_line, place_reach, places, reaches}
+use Rattle.pts_rules.specs.Mistyped.{all_right, body_scope, cell_right, checked_stmt, clause_right, induct_right, initial_right, op_right, reduce_right}
 use Rattle.pts_points.specs.Inside.{HasRoom, IsSound}
 use Rattle.pts_points.proofs.Each.{Each, front, back}
 use Rattle.pts_points.proofs.Interiors.{Stays, each_stays}

@@ -1,12 +1,11 @@
 -- Sums and scans: what their form asks of kinds.
-use Rattle.std.proofs.Common.{◌≡◌, true, false, Bool, ◌&&◌, Option, Some, None, sym, subst}
+use Rattle.std.proofs.Common.{◌≡◌, Bool, ◌&&◌, Option, Some, None, sym, subst}
 use Rattle.std.specs.Prelude.{IsTrue, unwrap_or}
 use Rattle.std.proofs.lemmas.Bool.{and_parts}
 use Rattle.pts_types.specs.declared.value.Kind.{Kind}
 use Rattle.pts_types.specs.declared.value.Kind.TheVariants as kinds
 use Rattle.pts_tree.specs.Spelling.{if_there}
 use Rattle.pts_tree.specs.declared.call.Call.{Call}
-use Rattle.pts_tree.specs.declared.call.CallForm.{CallForm}
 use Rattle.pts_tree.specs.declared.call.CallForm.TheVariants as forms
 use Rattle.pts_rules.specs.Known.{Scope, has, val_fits}
 use Rattle.pts_rules.specs.Mistyped.{cell_right, form_right, function_right, op_right, source_kinds, sum_kind, sum_right, target_right}

@@ -1,10 +1,9 @@
 -- Calls and loops with numbers in place of names, sums and signs.
-use Rattle.std.specs.Prelude.{◌≡◌, ℕ, ◌<◌, ◌≤◌, ◌-◌, ◌^◌, true, false, unwrap_or, option_map, IfSome, Option, Some, None, List, [], ◌∷◌, map, flat_map, count_by, ℤ, pos, ◌≤ℤ◌, ◌<ℤ◌, IsTrue}
+use Rattle.std.specs.Prelude.{ℕ, unwrap_or, option_map, Option, Some, None, List, [], ◌∷◌, map, flat_map, pos}
 use Rattle.pts_types.specs.declared.value.Kind.{Kind}
 use Rattle.pts_types.specs.declared.value.Kind.TheVariants as kinds
 use Rattle.pts_types.specs.declared.value.Value.{Value}
 use Rattle.pts_types.specs.declared.operation.ScalarOp.TheVariants as operations
-use Rattle.pts_tree.specs.declared.sum.Sum.{Sum}
 use Rattle.pts_tree.specs.declared.sum.Range.{Range}
 use Rattle.pts_tree.specs.declared.sum.Cell.{Cell}
 use Rattle.pts_tree.specs.declared.call.Op.{Op}
@@ -21,8 +20,8 @@ use Rattle.pts_tree.specs.declared.loops.Initial.{Initial}
 use Rattle.pts_tree.specs.declared.loops.Initial.TheVariants as initials
 use Rattle.pts_tree.specs.declared.block.TaskStmt.{TaskStmt}
 use Rattle.pts_tree.specs.declared.script.Item.{Item}
-use Rattle.pts_rules.specs.Parts.{Name, Simple, Throw, Assign, Call, Loop, statements}
-use Rattle.pts_rules.specs.Known.{Scope, function_number, kind_of_array, natural, number}
+use Rattle.pts_rules.specs.Parts.{Name, Simple, Call, Loop, statements}
+use Rattle.pts_rules.specs.Known.{Scope, function_number, natural, number}
 use Rattle.pts_rules.specs.Counts.{loop_positions, step_of}
 use Rattle.pts_rules.specs.Mistyped.{sum_kind}
 use Rattle.pts_rules.proofs.Tasks.{task_statements}

@@ -1,4 +1,4 @@
-use Rattle.std.proofs.Common.{◌≡◌, drop, length, ◌≤◌}
+use Rattle.std.proofs.Common.{◌≡◌, drop}
 use Rattle.pts_conflict.specs.Conflicts.{is_at_most}
 use Rattle.pts_conflict.proofs.found.is_at_most.Given as goal
 

@@ -1,8 +1,7 @@
 -- From the first conflict of a search to the least one of the program, or to none.
-use Rattle.std.proofs.Common.{◌≡◌, ℕ, true, Some, None, Option, List}
+use Rattle.std.proofs.Common.{Some, None}
 use Rattle.pts_program.specs.declared.lists.Lists.{Lists}
 use Rattle.pts_conflict.specs.declared.found.Found.{Found}
-use Rattle.pts_conflict.specs.declared.pair.Pair.{Pair}
 use Rattle.pts_conflict.specs.Conflicts.{IsClear, IsLeastConflict}
 use Rattle.pts_conflict.specs.Search.{FindsFirst, IsConflict, rank_of}
 

@@ -1,6 +1,6 @@
 -- What the search needs of every program.
-use Rattle.std.proofs.Common.{◌≡◌, ℕ, ◌+◌, ◌^◌, ◌<◌, ◌≤◌, Some, Option, List, length, get_or, slice_get}
-use Rattle.std.specs.Prelude.{◌↔◌, All, IsSomeAnd}
+use Rattle.std.proofs.Common.{◌≡◌, ℕ, ◌+◌, ◌^◌, ◌≤◌, Some, get_or, slice_get}
+use Rattle.std.specs.Prelude.{All}
 use Rattle.std.proofs.lemmas.Option.{slice_get-get_or}
 use Rattle.pts_points.specs.declared.point.CallInfo.{CallInfo}
 use Rattle.pts_points.specs.declared.point.PointInfo.{PointInfo}
