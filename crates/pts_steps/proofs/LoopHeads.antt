@@ -81,6 +81,9 @@ module _ (x : loops.Loop) (a b c d : Builder) (s : IsAtGlobals a) (first : b ≡
       ∙ ap (λ (z : Builder). record z { kinds = (x.index, Value kinds.I64) ∷ z.kinds })
       (second ∙ ap (λ z. fold with_clause z x.clauses) first ∙ clauses_entered (heads_entered a ((x.index, kinds.I64) ∷ [])) x.clauses)
 
+  pub head_same : (d.globals ≡ a.globals) × (d.steps ≡ a.steps)
+  head_same = (ap (λ z. z.globals) loop_entered, ap (λ z. z.steps) loop_entered)
+
   abbrev index_spots : List Spot → List Spot
   index_spots spots = let now = spots ++ head_spots (length spots) ((x.index, kinds.I64) ∷ []) in now ++ head_spots (length now) (of_clauses x.clauses)
 

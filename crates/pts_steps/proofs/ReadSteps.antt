@@ -27,7 +27,7 @@ module _ (names : Scope) (x : loops.Loop) where
     pub lets : (context : Context) (k : ℕ) → p.lets context k ≡ context.lets
     pub steps : (context : Context) (k m : ℕ) → AreSteps names x (p.points context k m) (replicate n steps.Read)
 
-  reads_none : AreReads nothing 0
+  pub reads_none : AreReads nothing 0
   reads_none = record { size = refl; lets = λ context k. refl; steps = λ context k m. tt }
 
   reads_behind : (p q : Piece) (m n : ℕ) → AreReads p m → AreReads q n → AreReads (behind p q) (m + n)

@@ -1,7 +1,7 @@
 -- Spots that are left, and Reads one behind the other.
-use Rattle.std.proofs.Common.{◌≡◌, ℕ, ◌+◌, ◌-◌, ◌<◌, ◌≤◌, Bool, true, false, leb, List, [], ◌∷◌, ◌++◌, length, take, replicate, sym, ap, ◌∙◌, ◌^◌, append_assoc, length-append, arith}
+use Rattle.std.proofs.Common.{◌≡◌, ℕ, ◌+◌, ◌-◌, ◌<◌, ◌≤◌, Bool, true, false, leb, List, [], ◌∷◌, ◌++◌, length, take, replicate, refl, sym, ap, ◌∙◌, ◌^◌, append_assoc, length-append, arith}
 use Rattle.std.proofs.lemmas.Bool.{leb-true, leb-false}
-use Rattle.std.proofs.lemmas.List.{length-replicate, length-take-le, replicate_more, take-take, take_all}
+use Rattle.std.proofs.lemmas.List.{length-replicate, length-take-le, replicate-append-replicate, replicate_more, take-take, take_all}
 use Rattle.pts_tree.specs.declared.expr.Expr.{Expr}
 use Rattle.pts_rules.specs.Counts.{reads}
 use Rattle.pts_code.specs.Compiling.{capped}
@@ -36,6 +36,12 @@ so_many xs count = by_test (leb (length xs) count) refl
 pub one_read : (b : Builder) (n : ℕ) → with_step (with_reads b n) steps.Read ≡ with_reads b (n + 1)
 one_read b n =
     λ i. record b { steps = (append_assoc b.steps (replicate n steps.Read) (steps.Read ∷ []) ∙ ap (λ ss. b.steps ++ ss) (replicate_more n steps.Read)) i }
+
+pub reads_twice : (b : Builder) (m n : ℕ) → with_reads (with_reads b m) n ≡ with_reads b (m + n)
+reads_twice b m n =
+    λ i. record b {
+      steps = (append_assoc b.steps (replicate m steps.Read) (replicate n steps.Read) ∙ ap (λ ss. b.steps ++ ss) (replicate-append-replicate m n steps.Read)) i;
+    }
 
 pub reads_length : (b : Builder) (n : ℕ) → length (with_reads b n).steps ≡ length b.steps + n
 reads_length b n = let both = length-append b.steps (replicate n steps.Read) in let many = length-replicate n steps.Read in omega (arith, both, many)

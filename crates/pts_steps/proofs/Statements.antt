@@ -5,21 +5,25 @@ use Rattle.std.proofs.lemmas.List.{drop_all}
 use Rattle.pts_types.specs.declared.value.Kind.{Kind}
 use Rattle.pts_types.specs.declared.value.Kind.TheVariants as kinds
 use Rattle.pts_types.specs.declared.operation.ScalarOp.{ScalarOp}
+use Rattle.pts_affine.specs.declared.line.Line.{Line}
 use Rattle.pts_tree.specs.declared.expr.Expr.{Expr}
 use Rattle.pts_tree.specs.declared.expr.Place.{Place}
 use Rattle.pts_tree.specs.declared.loops.BodyStmt.{BodyStmt}
 use Rattle.pts_tree.specs.declared.loops.Clause.{Clause}
 use Rattle.pts_tree.specs.declared.loops.Loop as loops
+use Rattle.pts_rules.specs.declared.meaning.Meaning.TheVariants.{Value}
 use Rattle.pts_rules.specs.Counts.{reads}
 use Rattle.pts_rules.specs.Kinds.{let_kind}
 use Rattle.pts_rules.specs.Known.{view_of}
 use Rattle.pts_rules.specs.Mistyped.{body_scope}
 use Rattle.pts_rules.specs.Parts.{Name}
 use Rattle.pts_code.specs.declared.code.Code.{Code}
+use Rattle.pts_code.specs.declared.compiling.Spot.TheVariants as places
 use Rattle.pts_code.specs.Compiling.{IsCode}
 use Rattle.pts_points.specs.declared.space.IterationSpace.{IterationSpace}
-use Rattle.pts_points.specs.Pieces.{Context, Piece, sequence, served, served_off, binding}
+use Rattle.pts_points.specs.Pieces.{Context, LivesOut, Piece, alone, nothing, sequence, served, served_off, binding}
 use Rattle.pts_points.specs.Points.{kind_at, reads_of, both_reads, assign_deed, update_deed, kind_of_let, stmt_piece, body_piece, clause_piece}
+use Rattle.pts_points.proofs.Builds.{append_nothing}
 use Rattle.pts_points.proofs.StatementForms.{note_deed, give_deed, test_deed}
 use Rattle.pts_points.proofs.Wholes.{counted}
 use Rattle.pts_steps.specs.declared.builder.Builder.{Builder}
@@ -27,8 +31,9 @@ use Rattle.pts_steps.specs.declared.step.Step.{Step}
 use Rattle.pts_steps.specs.declared.step.Step.TheVariants as steps
 use Rattle.pts_steps.specs.Building.{Stands, with_reads, with_step, Goes}
 use Rattle.pts_steps.specs.Steps.{Computes, view_number}
-use Rattle.pts_steps.proofs.Goings.{Suits, bound, computed, goes_behind, goes_bound, goes_none, goes_served, goes_served_off, kinds_here}
-use Rattle.pts_steps.proofs.ReadSteps.{reads_both, reads_here}
+use Rattle.pts_steps.proofs.Goings.{computed, goes_behind, goes_bound, goes_none, goes_served, goes_served_off, kinds_here}
+use Rattle.pts_steps.proofs.Spots.{reads_length}
+use Rattle.pts_steps.proofs.ReadSteps.{reads_both, reads_here, reads_none}
 
 -- a step behind Reads
 made : (b m c : Builder) (k : ℕ) (step : Step) → m ≡ with_reads b k → c ≡ with_step m step → with_step (with_reads b k) step ≡ c
@@ -88,16 +93,22 @@ module _ (x : loops.Loop) (space : IterationSpace) (b m c : Builder) (y : Expr) 
   abbrev noted_step : Step
   noted_step = steps.Note code
 
-  pub noted_let : (d : Builder) (name : Name) (kind : Kind) (number : ℕ) → kind ≡ let_kind b.kinds y → number ≡ length b.steps + reads y
-      → m ≡ with_reads b (reads y) → c ≡ with_step m noted_step → d ≡ bound x b own (reads y) (note_deed y) noted_step name kind number
+  -- the same with a local value more
+  abbrev pub with_let : Name → Kind → ℕ → Builder → Builder
+  with_let name kind number z =
+      record z { kinds = (name, Value kind) ∷ z.kinds; names = (name, Value kind) ∷ z.names; spots = z.spots ++ places.Note number ∷ [] }
+
+  pub noted_let : (d : Builder) (name : Name) (kind : Kind) (number : ℕ) → kind ≡ let_kind b.kinds y → number ≡ length m.steps
+      → m ≡ with_reads b (reads y) → c ≡ with_step m noted_step → d ≡ with_let name kind number c
       → IsCode b.names b.spots kind (length b.steps) y code
       → Goes x b d (binding name (kind_of_let y) own (note_deed y))
   noted_let d name kind number kind_is at e f g is =
       let same = λ (context : Context) (head : context.head ≡ body_scope b.globals x) (s : Stands x b context.lets). kind_is ∙ ap (λ names. let_kind names y) (kinds_here x b context head s) in
-      subst (λ z. Goes x b z (binding name (kind_of_let y) own (note_deed y))) (sym g)
+      let whole : d ≡ with_let name kind number (with_step (with_reads b (reads y)) noted_step) = g ∙ ap (with_let name kind number) (sym (made b m c (reads y) noted_step e f)) in
+      subst (λ z. Goes x b z (binding name (kind_of_let y) own (note_deed y))) (sym whole)
       (goes_bound x b own (reads y) (note_deed y) noted_step name kind number (kind_of_let y) (reads_here b.globals x b.globals space y)
       (λ context head s. computed x b context.lets kind _ (length b.steps) (length b.steps) y code s (same context head s) refl is)
-      at same)
+      (at ∙ ap (λ z. length z.steps) e ∙ reads_length b (reads y)) same)
 
 -- ---- one behind the other
 
@@ -148,3 +159,13 @@ module _ (x : loops.Loop) (space : IterationSpace) (a : Builder) where
   -- a piece that is that of a statement
   pub as_stmt : (b : Builder) (y z : BodyStmt) (p : Piece) → y ≡ z → stmt_piece a.globals space z ≡ p → Goes x a b p → Goes x a b (stmt_piece a.globals space y)
   as_stmt b y z p is same g = subst (Goes x a b) (sym (ap (stmt_piece a.globals space) is ∙ same)) g
+
+-- ---- clauses
+
+-- the cell of a clause
+pub live_goes : (b c : Builder) (array : ℕ) (line : Line) (p : Piece) → p ≡ alone (LivesOut array line) → c ≡ with_step b steps.LiveOut → (x : loops.Loop) → Goes x b c p
+live_goes b c array line p is e x =
+    let none : with_step (with_reads b 0) steps.LiveOut ≡ c = (λ i. record b { steps = append_nothing b.steps i ++ steps.LiveOut ∷ [] }) ∙ sym e in
+    subst (Goes x b c) (sym is)
+    (subst (λ z. Goes x b z (alone (LivesOut array line))) none
+    (goes_served x b nothing 0 (λ context n. LivesOut array line) steps.LiveOut (reads_none b.globals x) (λ context head s. tt)))
