@@ -62,12 +62,12 @@ texts_turn names ts at t ss s less is h k =
     subst (λ us. AreAllSteps names us (ss ++ s ∷ [])) (ap (λ u. take at ts ++ u ∷ []) is ∙ sym (take_more ts at t less)) (steps_push names (take at ts) ss t s h k)
 
 pub steps_found : (names : Scope) (ts : List CallText) (ss : List (List Step)) (k : ℕ) (t : CallText) (s : List Step) → AreAllSteps names ts ss
-    → slice_get ts k ≡ Some t → slice_get ss k ≡ Some s → AreStepsOf names t s
+    → slice_get ts k ≡ Some t → s ≡ get_or ss k s → AreStepsOf names t s
 steps_found names [] [] k t s h e f = absurd (none-some t e)
 steps_found names [] (u ∷ ss) k t s h e f = absurd h
 steps_found names (v ∷ ts) [] k t s h e f = absurd h
 steps_found names (v ∷ ts) (u ∷ ss) zero t s h e f =
-    subst (λ z. AreStepsOf names z s) (ap (λ o. unwrap_or o v) e) (subst (AreStepsOf names v) (ap (λ o. unwrap_or o u) f) h.0)
+    subst (λ z. AreStepsOf names z s) (ap (λ o. unwrap_or o v) e) (subst (AreStepsOf names v) (sym f) h.0)
 steps_found names (v ∷ ts) (u ∷ ss) (suc k) t s h e f = steps_found names ts ss k t s h.1 e f
 
 pub as_many_texts : (names : Scope) (ts : List CallText) (ss : List (List Step)) → AreAllSteps names ts ss → length ss ≡ length ts

@@ -1,5 +1,5 @@
 -- The steps of each form of statement.
-use Rattle.std.proofs.Common.{◌≡◌, ℕ, ◌+◌, ◌<◌, List, [], ◌∷◌, ◌++◌, length, map, get_or, drop, drop-cons, add-one, ◌≤◌, refl, sym, ap, subst, ◌∙◌, arith}
+use Rattle.std.proofs.Common.{◌≡◌, ℕ, ◌+◌, ◌<◌, Option, Some, None, List, [], ◌∷◌, ◌++◌, length, map, get_or, drop, drop-cons, add-one, ◌≤◌, refl, sym, ap, subst, ◌∙◌, arith}
 use Rattle.std.specs.Prelude.{unwrap_or}
 use Rattle.std.proofs.lemmas.List.{drop_all}
 use Rattle.pts_types.specs.declared.value.Kind.{Kind}
@@ -9,6 +9,7 @@ use Rattle.pts_affine.specs.declared.line.Line.{Line}
 use Rattle.pts_tree.specs.declared.expr.Expr.{Expr}
 use Rattle.pts_tree.specs.declared.expr.Place.{Place}
 use Rattle.pts_tree.specs.declared.loops.BodyStmt.{BodyStmt}
+use Rattle.pts_tree.specs.declared.loops.BodyStmt.TheVariants as b
 use Rattle.pts_tree.specs.declared.loops.Clause.{Clause}
 use Rattle.pts_tree.specs.declared.loops.Loop as loops
 use Rattle.pts_rules.specs.declared.meaning.Meaning.TheVariants.{Value}
@@ -21,17 +22,18 @@ use Rattle.pts_code.specs.declared.code.Code.{Code}
 use Rattle.pts_code.specs.declared.compiling.Spot.TheVariants as places
 use Rattle.pts_code.specs.Compiling.{IsCode}
 use Rattle.pts_points.specs.declared.space.IterationSpace.{IterationSpace}
-use Rattle.pts_points.specs.Pieces.{Context, LivesOut, Piece, alone, nothing, sequence, served, served_off, binding}
+use Rattle.pts_points.specs.Pieces.{Context, LivesOut, Piece, alone, nothing, sequence, served, served_off, binding, branching}
 use Rattle.pts_points.specs.Points.{kind_at, reads_of, both_reads, assign_deed, update_deed, kind_of_let, stmt_piece, body_piece, clause_piece}
 use Rattle.pts_points.proofs.Builds.{append_nothing}
-use Rattle.pts_points.proofs.StatementForms.{note_deed, give_deed, test_deed}
+use Rattle.pts_points.proofs.StatementForms as forms
+use Rattle.pts_points.proofs.StatementForms.{note_deed, give_deed, test_deed, else_piece}
 use Rattle.pts_points.proofs.Wholes.{counted}
 use Rattle.pts_steps.specs.declared.builder.Builder.{Builder}
 use Rattle.pts_steps.specs.declared.step.Step.{Step}
 use Rattle.pts_steps.specs.declared.step.Step.TheVariants as steps
-use Rattle.pts_steps.specs.Building.{Stands, with_reads, with_step, Goes}
+use Rattle.pts_steps.specs.Building.{Stands, with_reads, with_step, Goes, GoesInside, GoesBoth}
 use Rattle.pts_steps.specs.Steps.{Computes, view_number}
-use Rattle.pts_steps.proofs.Goings.{computed, goes_behind, goes_bound, goes_none, goes_served, goes_served_off, kinds_here}
+use Rattle.pts_steps.proofs.Goings.{computed, goes_behind, goes_bound, goes_branching, goes_none, goes_nothing, goes_served, goes_served_off, kinds_here}
 use Rattle.pts_steps.proofs.Spots.{reads_length}
 use Rattle.pts_steps.proofs.ReadSteps.{reads_both, reads_here, reads_none}
 
@@ -169,3 +171,29 @@ live_goes b c array line p is e x =
     subst (Goes x b c) (sym is)
     (subst (λ z. Goes x b z (alone (LivesOut array line))) none
     (goes_served x b nothing 0 (λ context n. LivesOut array line) steps.LiveOut (reads_none b.globals x) (λ context head s. tt)))
+
+-- ---- tests
+
+module _ (x : loops.Loop) (space : IterationSpace) (a t c : Builder) (y : BodyStmt) (test : Expr) (body : List BodyStmt) (other : Option (List BodyStmt)) (is : y ≡ b.If test body other)
+    (tests : Goes x a t (served (reads_of a.globals space test) (test_deed test))) (first : GoesInside x t c (body_piece t.globals space body)) where
+  first_here : GoesInside x t c (body_piece a.globals space body)
+  first_here = subst (λ z. GoesInside x t c (body_piece z space body)) tests.globals first
+
+  same_piece : (o : Option (List BodyStmt)) → other ≡ o → stmt_piece a.globals space y ≡ branching (reads_of a.globals space test) (test_deed test) (body_piece a.globals space body) (else_piece a.globals space o)
+  same_piece o chosen = ap (stmt_piece a.globals space) is ∙ forms.stmt-If a.globals space test body other ∙ ap (λ z. branching (reads_of a.globals space test) (test_deed test) (body_piece a.globals space body) (else_piece a.globals space z)) chosen
+
+  pub if_else : (d : Builder) (others : List BodyStmt) → other ≡ Some others → GoesInside x c d (body_piece c.globals space others) → Goes x a d (stmt_piece a.globals space y)
+  if_else d others chosen second =
+      subst (Goes x a d) (sym (same_piece (Some others) chosen))
+      (goes_branching x a t d (reads_of a.globals space test) (test_deed test) (body_piece a.globals space body) (body_piece a.globals space others) tests
+      (record {
+        between = c;
+        first_goes = first_here;
+        second_goes = subst (λ z. GoesInside x c d (body_piece z space others)) (first.globals ∙ tests.globals) second;
+      }))
+
+  pub if_alone : other ≡ None → Goes x a c (stmt_piece a.globals space y)
+  if_alone chosen =
+      subst (Goes x a c) (sym (same_piece None chosen))
+      (goes_branching x a t c (reads_of a.globals space test) (test_deed test) (body_piece a.globals space body) nothing tests
+      (record { between = c; first_goes = first_here; second_goes = goes_nothing x c }))

@@ -18,7 +18,6 @@ use crate::step::Step;
 use pts_code::{Code, Spot};
 use pts_tree::{BodyStmt, Clause, Expr, Loop, Name, Place};
 use pts_types::{Kind, NoMemory, ScalarOp};
-use sqlite_items::Items;
 use std::alloc::{AllocError, Global};
 
 fn declares(clause: &Clause, name: &Name) -> bool
@@ -133,23 +132,6 @@ impl Builder {
     }
 
     #[cycle(body)]
-    fn branches(
-        &mut self,
-        alloc: Global,
-        x: &Loop,
-        body: &[BodyStmt],
-        other: &Option<Items<BodyStmt>>,
-    ) -> Result<(), NoMemory>
-        ensures { OnOk result ((space : IterationSpace) → spec.GoesBoth x.now self.old self.new (body_piece self.old.globals space body.now) (forms.else_piece self.old.globals space other.now)) }
-    {
-        self.braces(alloc, x, body)?;
-        match other {
-            Some(other) => self.braces(alloc, x, other.as_slice()),
-            None => Ok(()),
-        }
-    }
-
-    #[cycle(body)]
     fn stmt(&mut self, alloc: Global, x: &Loop, stmt: &BodyStmt) -> Result<(), NoMemory>
         ensures { OnOk result ((space : IterationSpace) → spec.Goes x.now self.old self.new (stmt_piece self.old.globals space stmt.now)) }
     {
@@ -159,7 +141,11 @@ impl Builder {
             BodyStmt::Combine(view, value) => Ok(self.give(alloc, x, view, value)?),
             BodyStmt::If(test, body, other) => {
                 self.test(alloc, test)?;
-                self.branches(alloc, x, body.as_slice(), other)
+                self.braces(alloc, x, body.as_slice())?;
+                if let Some(other) = other {
+                    self.braces(alloc, x, other.as_slice())?;
+                }
+                Ok(())
             }
             BodyStmt::VecOff(body) => self.braces(alloc, x, body.as_slice()),
             BodyStmt::Ordered(place, op, value) => Ok(self.update(alloc, place, *op, value)?),
