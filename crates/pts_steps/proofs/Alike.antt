@@ -1,10 +1,9 @@
 -- Pieces whose points are shown alike.
-use Rattle.std.proofs.Common.{◌≡◌, ℕ, ◌+◌, Option, Some, None, List, [], ◌∷◌, ◌++◌, map, refl, sym, ap, subst, ◌∙◌, arith}
+use Rattle.std.proofs.Common.{◌≡◌, ℕ, ◌+◌, Some, List, [], ◌∷◌, ◌++◌, map, refl, sym, ap, subst, ◌∙◌}
 use Rattle.std.specs.Prelude.{Bool, true, false, unwrap_or}
 use Rattle.pts_types.specs.declared.value.Kind.{Kind}
 use Rattle.pts_rules.specs.Parts.{Name}
-use Rattle.pts_points.specs.declared.point.PointInfo.{PointInfo}
-use Rattle.pts_points.specs.Pieces.{Context, Deed, Point, Piece, seeing, taken, nothing, behind, sequence, served, served_off, off_from, off_vector, binding, under, branching}
+use Rattle.pts_points.specs.Pieces.{Context, Deed, Point, Piece, seeing, taken, nothing, behind, served, served_off, off_from, off_vector, binding, under, branching}
 use Rattle.pts_points.specs.Points.{form_of, array_of, line_of_deed, info}
 use Rattle.pts_points.proofs.Builds.{map_both}
 

@@ -1,5 +1,5 @@
 -- The points of a loop without constants show what those of the loop show.
-use Rattle.std.proofs.Common.{◌≡◌, ℕ, Option, Some, None, option_map, List, [], ◌∷◌, ◌++◌, map, refl, sym, ap, subst, ◌∙◌, append_assoc}
+use Rattle.std.proofs.Common.{◌≡◌, ℕ, Some, None, List, [], ◌∷◌, ◌++◌, map, refl, sym, ap, subst, ◌∙◌}
 use Rattle.std.specs.Prelude.{flat_map}
 use Rattle.pts_types.specs.declared.operation.ScalarOp.{ScalarOp}
 use Rattle.pts_tree.specs.declared.expr.Expr.{Expr}
@@ -15,14 +15,13 @@ use Rattle.pts_tree.specs.declared.loops.Initial.TheVariants as initials
 use Rattle.pts_tree.specs.declared.loops.Loop as loops
 use Rattle.pts_rules.specs.Known.{Scope}
 use Rattle.pts_rules.specs.Indices.{elements, places}
-use Rattle.pts_rules.specs.Mistyped.{body_scope}
 use Rattle.pts_rules.specs.Parts.{Loop}
 use Rattle.pts_rules.proofs.Bodies as bodies
 use Rattle.pts_constants.specs.Resolved.{resolved_clause, resolved_expr, resolved_loop, resolved_place, resolved_stmt}
 use Rattle.pts_constants.proofs.ResolvedStatements as res
 use Rattle.pts_points.specs.declared.space.IterationSpace.{IterationSpace}
 use Rattle.pts_points.specs.Lines.{space_of}
-use Rattle.pts_points.specs.Pieces.{Piece, nothing, behind, sequence, served, served_off, off_vector, binding, branching}
+use Rattle.pts_points.specs.Pieces.{Piece, nothing, sequence}
 use Rattle.pts_points.specs.Points.{info, initial_piece, reads_of, both_reads, assign_deed, update_deed, kind_of_let, stmt_piece, body_piece, clause_piece, loop_piece, context_of}
 use Rattle.pts_points.proofs.Each.{Each, front, back}
 use Rattle.pts_points.proofs.ReadTurns.{index_shown}

@@ -1,5 +1,5 @@
 -- The names of functions are no local values.
-use Rattle.std.proofs.Common.{◌≡◌, ◌+◌, false, cond, List, [], ◌∷◌, count_by, fold, refl, ap, ◌∙◌, arith}
+use Rattle.std.proofs.Common.{◌≡◌, ◌+◌, false, cond, List, [], ◌∷◌, count_by, fold, refl, ◌∙◌}
 use Rattle.pts_rules.specs.declared.meaning.Meaning.TheVariants as meanings
 use Rattle.pts_rules.specs.Known.{Entry, Scope, is_value}
 use Rattle.pts_code.specs.declared.function.FunctionInfo.{FunctionInfo}

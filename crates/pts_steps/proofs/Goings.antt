@@ -1,12 +1,11 @@
 -- How the steps of pieces are added one behind the other.
-use Rattle.std.proofs.Common.{◌≡◌, ℕ, ◌+◌, ◌-◌, zero, suc, List, [], ◌∷◌, ◌++◌, length, map, replicate, drop, take, refl, sym, ap, subst, ◌∙◌, append_assoc, length-append, arith}
+use Rattle.std.proofs.Common.{◌≡◌, ℕ, ◌+◌, ◌-◌, List, [], ◌∷◌, ◌++◌, length, map, replicate, drop, take, refl, sym, ap, subst, ◌∙◌, append_assoc, length-append, arith}
 use Rattle.std.specs.Prelude.{true, false}
 use Rattle.std.proofs.lemmas.List.{length-replicate, length_push}
 use Rattle.pts_types.specs.declared.value.Kind.{Kind}
 use Rattle.pts_tree.specs.declared.expr.Expr.{Expr}
 use Rattle.pts_tree.specs.declared.loops.Loop as loops
 use Rattle.pts_rules.specs.declared.meaning.Meaning.TheVariants.{Value}
-use Rattle.pts_rules.specs.Known.{Scope}
 use Rattle.pts_rules.specs.Mistyped.{body_scope}
 use Rattle.pts_rules.specs.Parts.{Name}
 use Rattle.pts_code.specs.declared.code.Code.{Code}

@@ -1,6 +1,6 @@
 -- A loop shows the same points without constants.
-use Rattle.std.proofs.Common.{◌≡◌, ℕ, zero, suc, ◌<◌, ◌^◌, ◌-◌, min, Bool, true, false, Option, Some, None, List, [], ◌∷◌, map, ℤ, pos, negsuc, refl, sym, ap, subst, ◌∙◌, arith}
-use Rattle.std.specs.Prelude.{All, flat_map, int_lt, is_none, is_some, nat_abs, option_map}
+use Rattle.std.proofs.Common.{◌≡◌, ℕ, suc, ◌<◌, ◌^◌, ◌-◌, min, true, false, Option, Some, None, List, [], ◌∷◌, map, ℤ, pos, negsuc, refl, ap, ◌∙◌, arith}
+use Rattle.std.specs.Prelude.{All, flat_map, is_none, is_some, option_map}
 use Rattle.std.proofs.lemmas.Bool.{or_parts}
 use Rattle.std.proofs.lemmas.List.Elements.{All-head, All-tail}
 use Rattle.std.proofs.lemmas.Slice.Eq.{bytes_eq-Decides}
@@ -15,14 +15,14 @@ use Rattle.pts_tree.specs.declared.loops.Initial.{Initial}
 use Rattle.pts_tree.specs.declared.loops.Initial.TheVariants as initials
 use Rattle.pts_tree.specs.declared.loops.Loop as loops
 use Rattle.pts_rules.specs.Counts.{positions, step_of}
-use Rattle.pts_rules.specs.Indices.{Affine, affine_of, index_not_affine, places}
+use Rattle.pts_rules.specs.Indices.{affine_of, index_not_affine, places}
 use Rattle.pts_rules.specs.Known.{Scope, constant_of, number, signed}
 use Rattle.pts_rules.specs.Known as known
 use Rattle.pts_rules.specs.Parts.{Name, Loop}
-use Rattle.pts_constants.specs.Resolved.{number_sum, resolved_cell, resolved_clause, resolved_initial, resolved_loop, resolved_sum}
-use Rattle.pts_points.specs.Lines.{line_of_cell, space_of}
-use Rattle.pts_points.specs.Pieces.{LivesOut, Piece, alone}
-use Rattle.pts_points.specs.Points.{array_at, clause_piece, context_of, info, initial_piece, live_out, loop_piece}
+use Rattle.pts_constants.specs.Resolved.{number_sum, resolved_cell, resolved_initial, resolved_loop, resolved_sum}
+use Rattle.pts_points.specs.Lines.{space_of}
+use Rattle.pts_points.specs.Pieces.{LivesOut, alone}
+use Rattle.pts_points.specs.Points.{context_of, info, initial_piece, live_out, loop_piece}
 use Rattle.pts_points.proofs.Each.{Each}
 use Rattle.pts_steps.specs.Shown.{HasItsNumber, IsCellOf, IsClauseOf, IsInitialOf, IsLoopOf, IsSmall}
 use Rattle.pts_steps.proofs.AffineKept.{line_kept, not_below}

@@ -1,5 +1,5 @@
 -- The names at a position have their values at their spots.
-use Rattle.std.proofs.Common.{◌≡◌, ℕ, ◌+◌, ◌<◌, ◌≤◌, zero, suc, Some, None, List, [], ◌∷◌, ◌++◌, length, map, fold, cond, slice_get, count_by, refl, sym, ap, subst, ◌∙◌, append_assoc, length-append, arith}
+use Rattle.std.proofs.Common.{◌≡◌, ℕ, ◌+◌, ◌<◌, ◌≤◌, zero, suc, Some, List, [], ◌∷◌, ◌++◌, length, map, fold, cond, slice_get, count_by, refl, sym, ap, subst, ◌∙◌, append_assoc, arith}
 use Rattle.std.specs.Prelude.{unwrap_or}
 use Rattle.std.proofs.lemmas.List.{length_push}
 use Rattle.pts_types.specs.declared.value.Kind.{Kind}
@@ -12,7 +12,7 @@ use Rattle.pts_code.specs.declared.code.Code.{Code}
 use Rattle.pts_code.specs.declared.compiling.Spot.{Spot}
 use Rattle.pts_code.specs.declared.compiling.Spot.TheVariants as places
 use Rattle.pts_code.specs.Codes.{Sight}
-use Rattle.pts_code.specs.Compiling.{Holds, IsCode, at_spot, spot_of, is_local, locals, scope_of_names}
+use Rattle.pts_code.specs.Compiling.{Holds, IsCode, at_spot, is_local, locals, scope_of_names}
 use Rattle.pts_code.specs.Values.{Bound, Local, Array, Function, Environment}
 use Rattle.pts_code.proofs.Scopes.{count_cons}
 use Rattle.pts_points.specs.Pieces.{LetPoint}
@@ -64,9 +64,10 @@ placed_more sight spots env name kind spot p =
     let longer = length_push spots spot in
     record {
       count = omega (arith, count, one, longer);
-      holds =
-          (ap (λ o. at_spot sight (unwrap_or o (places.Local (locals env)))) (get_last spots spot (locals env) count),
-          holds_kept sight spots (spot ∷ []) env (omega (arith, count)) p.holds);
+      holds = (
+        ap (λ o. at_spot sight (unwrap_or o (places.Local (locals env)))) (get_last spots spot (locals env) count),
+        holds_kept sight spots (spot ∷ []) env (omega (arith, count)) p.holds,
+      );
     }
 
 -- ---- the names of a head, and `let`s

@@ -1,5 +1,5 @@
 -- What holds of the points of a loop and of their steps.
-use Rattle.std.proofs.Common.{◌≡◌, ℕ, zero, suc, ◌+◌, Some, None, List, [], ◌∷◌, length, slice_get, refl, sym, ap, ◌∙◌, arith, subst}
+use Rattle.std.proofs.Common.{◌≡◌, ℕ, zero, suc, ◌+◌, Some, List, [], ◌∷◌, length, slice_get, refl, ap, ◌∙◌, arith, subst}
 use Rattle.std.specs.Prelude.{All, unwrap_or}
 use Rattle.std.proofs.lemmas.Option.{none-some}
 use Rattle.pts_tree.specs.declared.loops.Loop as loops

@@ -1,5 +1,5 @@
 -- The Reads of an expression are read.
-use Rattle.std.proofs.Common.{◌≡◌, ℕ, ◌+◌, List, [], ◌∷◌, ◌++◌, replicate, refl, sym, ap, subst, ◌∙◌, arith}
+use Rattle.std.proofs.Common.{◌≡◌, ℕ, ◌+◌, List, [], ◌∷◌, ◌++◌, replicate, refl, ap, subst, ◌∙◌, arith}
 use Rattle.std.proofs.lemmas.List.{replicate-append-replicate}
 use Rattle.pts_tree.specs.declared.expr.Expr.{Expr}
 use Rattle.pts_tree.specs.declared.expr.Place.{Place}
@@ -7,7 +7,7 @@ use Rattle.pts_tree.specs.declared.loops.Loop as loops
 use Rattle.pts_rules.specs.Known.{Scope}
 use Rattle.pts_rules.specs.Counts.{reads}
 use Rattle.pts_points.specs.declared.space.IterationSpace.{IterationSpace}
-use Rattle.pts_points.specs.Pieces.{Context, Deed, Point, Piece, seeing, taken, nothing, behind, served}
+use Rattle.pts_points.specs.Pieces.{Context, Point, Piece, seeing, taken, nothing, behind, served}
 use Rattle.pts_points.specs.Points.{reads_of, both_reads}
 use Rattle.pts_points.proofs.ReadForms.{by_reads, read_deed}
 use Rattle.pts_steps.specs.declared.step.Step.{Step}

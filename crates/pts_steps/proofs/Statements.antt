@@ -1,5 +1,5 @@
 -- The steps of each form of statement.
-use Rattle.std.proofs.Common.{◌≡◌, ℕ, ◌+◌, ◌<◌, Option, Some, None, List, [], ◌∷◌, ◌++◌, length, map, get_or, drop, drop-cons, add-one, ◌≤◌, refl, sym, ap, subst, ◌∙◌, arith}
+use Rattle.std.proofs.Common.{◌≡◌, ℕ, ◌+◌, ◌<◌, Option, Some, None, List, [], ◌∷◌, ◌++◌, length, map, get_or, drop, drop-cons, add-one, ◌≤◌, refl, sym, ap, subst, ◌∙◌}
 use Rattle.std.specs.Prelude.{unwrap_or}
 use Rattle.std.proofs.lemmas.List.{drop_all}
 use Rattle.pts_types.specs.declared.value.Kind.{Kind}
@@ -31,7 +31,7 @@ use Rattle.pts_points.proofs.Wholes.{counted}
 use Rattle.pts_steps.specs.declared.builder.Builder.{Builder}
 use Rattle.pts_steps.specs.declared.step.Step.{Step}
 use Rattle.pts_steps.specs.declared.step.Step.TheVariants as steps
-use Rattle.pts_steps.specs.Building.{Stands, with_reads, with_step, Goes, GoesInside, GoesBoth}
+use Rattle.pts_steps.specs.Building.{Stands, with_reads, with_step, Goes, GoesInside}
 use Rattle.pts_steps.specs.Steps.{Computes, view_number}
 use Rattle.pts_steps.proofs.Goings.{computed, goes_behind, goes_bound, goes_branching, goes_none, goes_nothing, goes_served, goes_served_off, kinds_here}
 use Rattle.pts_steps.proofs.Spots.{reads_length}
@@ -87,10 +87,11 @@ module _ (x : loops.Loop) (space : IterationSpace) (b m c : Builder) (y : Expr) 
   given view clause kind number kind_is e f is =
       subst (λ z. Goes x b z (served own (give_deed view y))) (made b m c (reads y) (steps.Give clause code) e f)
       (goes_served x b own (reads y) (give_deed view y) (steps.Give clause code) (reads_here b.globals x b.globals space y)
-      (λ context head s.
-      (number,
-      computed x b context.lets kind _ (length b.steps) (length b.steps) y code s
-      (kind_is ∙ ap (λ names. unwrap_or (view_of names view) kinds.U64) (kinds_here x b context head s)) refl is)))
+      (λ context head s. (
+        number,
+        computed x b context.lets kind _ (length b.steps) (length b.steps) y code s
+            (kind_is ∙ ap (λ names. unwrap_or (view_of names view) kinds.U64) (kinds_here x b context head s)) refl is,
+      )))
 
   abbrev noted_step : Step
   noted_step = steps.Note code

@@ -8,7 +8,6 @@ use Rattle.pts_tree.specs.declared.loops.Clause.{Clause}
 use Rattle.pts_tree.specs.declared.loops.Clause.TheVariants as clauses
 use Rattle.pts_rules.specs.Parts.{Name}
 use Rattle.pts_code.specs.Codes.{Sight, local}
-use Rattle.pts_code.specs.Outcomes.{Outcome}
 use Rattle.pts_code.specs.Values.{Bound, Local, Environment, note}
 use Rattle.pts_points.specs.Pieces.{LetPoint}
 

@@ -14,7 +14,7 @@ use Rattle.pts_code.specs.Codes as codes
 use Rattle.pts_code.specs.Compiling.{Holds, scope_of_names}
 use Rattle.pts_code.specs.Outcomes.{Outcome}
 use Rattle.pts_code.specs.Values.{Environment, noted, value_of}
-use Rattle.pts_points.specs.Pieces.{LetPoint, Computation, Deed, Reads, Assigns, Updates, Notes, Tests, Gives, Fills, LivesOut, Answers, Point}
+use Rattle.pts_points.specs.Pieces.{LetPoint, Computation, Deed, Reads, Assigns, Updates, Notes, Tests, Gives, LivesOut, Point}
 use Rattle.pts_points.specs.declared.point.PointForm.{PointForm}
 use Rattle.pts_points.specs.declared.point.PointForm.TheVariants as forms
 use Rattle.pts_points.specs.Points.{context_of, loop_piece}

@@ -43,12 +43,7 @@ fn view_number(clauses: &[Clause], name: &Name) -> usize
 
 impl Builder {
     // The Reads of a place that is written and of the value for it, and the code of the value.
-    fn value_for(
-        &mut self,
-        alloc: Global,
-        place: &Place,
-        value: &Expr,
-    ) -> Result<Code, AllocError>
+    fn value_for(&mut self, alloc: Global, place: &Place, value: &Expr) -> Result<Code, AllocError>
         ensures reads { OnOk result (self.new ≡ spec.with_reads self.old (reads place.now.index + reads value.now)) }
         ensures code { IfOk result (λ code. IsCode self.old.names self.old.spots (points.kind_at self.old.globals place.now.array) (length self.old.steps + reads place.now.index) value.now code) }
     {
@@ -87,13 +82,7 @@ impl Builder {
         self.enter(alloc, name, kind, Spot::Note(number))
     }
 
-    fn give(
-        &mut self,
-        alloc: Global,
-        x: &Loop,
-        view: &Name,
-        value: &Expr,
-    ) -> Result<(), AllocError>
+    fn give(&mut self, alloc: Global, x: &Loop, view: &Name, value: &Expr) -> Result<(), AllocError>
         ensures { OnOk result ((space : IterationSpace) → spec.Goes x.now self.old self.new (served (reads_of self.old.globals space value.now) (forms.give_deed view.now value.now))) }
     {
         let kind = view_kind(&self.kinds, view);

@@ -35,12 +35,7 @@ impl Model for Globals {
     ghost invariant = { λ g. AreGlobals g.globals g.kinds g.names };
 }
 
-fn enter_array(
-    alloc: Global,
-    scope: &mut Scope,
-    name: &Name,
-    kind: Kind,
-) -> Result<(), NoMemory>
+fn enter_array(alloc: Global, scope: &mut Scope, name: &Name, kind: Kind) -> Result<(), NoMemory>
     ensures { OnOk result (scope.new ≡ (name.now, Array kind (pos 0)) ∷ scope.old) }
 {
     scope.enter(alloc, name, Meaning::Array(kind, 0))

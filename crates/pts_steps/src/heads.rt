@@ -26,11 +26,9 @@ impl Builder {
                 Some(kind) => self.kinds.enter(alloc, &clause.view, Meaning::View(kind)),
                 None => Ok(()),
             },
-            Clause::Induct(clause) => self.kinds.enter(
-                alloc,
-                &clause.name,
-                Meaning::Value(clause.kind),
-            ),
+            Clause::Induct(clause) => self
+                .kinds
+                .enter(alloc, &clause.name, Meaning::Value(clause.kind)),
         }
     }
 

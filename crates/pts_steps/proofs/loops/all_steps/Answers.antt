@@ -10,7 +10,8 @@ loop-text-preserved c =
     let names = c.args.builder.now.globals in
     let at = c.loop-text.text-index in
     let text = c.text-item.result in
-    let made = subst (λ (b : Builder). AreStepsOf b.globals text c.in_ok-steps.steps) c.loop-text.invariant.0 c.in_ok-steps.ensures.steps in
-    (c.in_ok-steps.ensures.same ∙ c.loop-text.invariant.0,
-    subst (AreAllSteps names (take (at + 1) c.args.texts.now)) (sym c.in_ok-push.ensures.ok)
-    (texts_turn names c.args.texts.now at text c.loop-text.all c.in_ok-steps.steps c.loop-text-test.true c.text-item.is c.loop-text.invariant.1 made))
+    let made = subst (λ (b : Builder). AreStepsOf b.globals text c.in_ok-steps.steps) c.loop-text.invariant.0 c.in_ok-steps.ensures.steps in (
+      c.in_ok-steps.ensures.same ∙ c.loop-text.invariant.0,
+      subst (AreAllSteps names (take (at + 1) c.args.texts.now)) (sym c.in_ok-push.ensures.ok)
+          (texts_turn names c.args.texts.now at text c.loop-text.all c.in_ok-steps.steps c.loop-text-test.true c.text-item.is c.loop-text.invariant.1 made),
+    )

@@ -1,9 +1,8 @@
-use Rattle.std.proofs.Common.{◌≡◌, ◌+◌, List, length, sym, ap, ◌∙◌, subst, arith}
-use Rattle.std.specs.Prelude.{true, IfOk}
+use Rattle.std.proofs.Common.{◌≡◌, ◌+◌, List, length, ap, ◌∙◌, subst, arith}
+use Rattle.std.specs.Prelude.{IfOk}
 use Rattle.pts_rules.specs.Known.{Scope}
 use Rattle.pts_code.specs.declared.compiling.Spot.{Spot}
 use Rattle.pts_code.specs.Compiling.{IsCode}
-use Rattle.pts_code.specs.Values.{numbers}
 use Rattle.pts_code.proofs.Counted.{as_points}
 use Rattle.pts_rules.specs.Counts.{reads}
 use Rattle.pts_steps.proofs.Spots.{reads_length}

@@ -1,4 +1,4 @@
-use Rattle.std.proofs.Common.{◌≡◌, fold, ap, ◌∙◌}
+use Rattle.std.proofs.Common.{fold, ap, ◌∙◌}
 use Rattle.std.proofs.lemmas.Result.{on_ok_weaker}
 use Rattle.pts_steps.specs.Building.{with_clause}
 use Rattle.pts_steps.proofs.LoopHeads.{head_above, head_same, head_stands}

@@ -1,4 +1,4 @@
-use Rattle.std.proofs.Common.{length, take, ◌∙◌}
+use Rattle.std.proofs.Common.{take, ◌∙◌}
 use Rattle.pts_steps.proofs.builder.Builder.leave.Goals as goal
 
 pub returns : goal.returns

@@ -1,4 +1,4 @@
-use Rattle.std.proofs.Common.{◌-◌, length, take, sym, ap, ◌∙◌, arith}
+use Rattle.std.proofs.Common.{◌-◌, length, take, ap, ◌∙◌, arith}
 use Rattle.std.proofs.Common.{◌≡◌}
 use Rattle.pts_steps.specs.declared.builder.Builder.{Builder}
 use Rattle.pts_steps.proofs.Spots.{but_last, so_many}

@@ -1,4 +1,4 @@
-use Rattle.std.proofs.Common.{List, map, sym, ap, ◌∙◌, subst}
+use Rattle.std.proofs.Common.{map, sym, ap, ◌∙◌, subst}
 use Rattle.pts_points.specs.Pieces.{sequence}
 use Rattle.pts_points.specs.Points.{body_piece, clause_piece}
 use Rattle.pts_steps.specs.Building.{Goes, left}

@@ -1,6 +1,4 @@
 use Rattle.std.proofs.Common.{ap, ◌∙◌}
-use Rattle.pts_code.specs.Values.{numbers}
-use Rattle.std.specs.Prelude.{true}
 use Rattle.pts_steps.specs.Building.{with_reads}
 use Rattle.pts_steps.proofs.Spots.{all_counted}
 use Rattle.pts_steps.proofs.builder.Builder.reads.Goals as goal
