@@ -15,7 +15,7 @@ ghost use Rattle.pts_steps.specs.Steps.{declares, view_number};
 use crate::builder::Builder;
 use crate::kinds::{kind_at, kind_of_let, view_kind};
 use crate::step::Step;
-use pts_code::{Code, Spot};
+use pts_code::Code;
 use pts_tree::{BodyStmt, Clause, Expr, Loop, Name, Place};
 use pts_types::{Kind, NoMemory, ScalarOp};
 use std::alloc::{AllocError, Global};
@@ -79,7 +79,7 @@ impl Builder {
         let code = self.compute(alloc, kind, value)?;
         let number = self.steps.len();
         self.push(Step::Note(code))?;
-        self.enter(alloc, name, kind, Spot::Note(number))
+        self.enter(alloc, name, kind, number)
     }
 
     fn give(&mut self, alloc: Global, x: &Loop, view: &Name, value: &Expr) -> Result<(), AllocError>

@@ -1,9 +1,11 @@
 //! What is made of a loop so far, and the names at the place that comes next.
 
-ghost use Rattle.std.specs.Prelude.{◌≡◌, ◌-◌, [], ◌∷◌, ◌++◌, IfOk, OnOk, length, take};
+ghost use Rattle.std.specs.Prelude.{true, ◌^◌, ◌<◌, ◌+◌, ◌≡◌, ◌-◌, [], ◌∷◌, ◌++◌, IfOk, OnOk, length, take};
 ghost use Rattle.pts_rules.specs.declared.meaning.Meaning.TheVariants.{Value};
 ghost use Rattle.pts_rules.specs.Counts.{reads};
+ghost use Rattle.pts_code.specs.declared.compiling.Spot.TheVariants as places;
 ghost use Rattle.pts_code.specs.Compiling.{IsCode};
+ghost use Rattle.pts_code.specs.Values.{numbers};
 ghost use Rattle.pts_steps.specs.Building as spec;
 
 use crate::step::Step;
@@ -40,23 +42,23 @@ impl Builder {
         self.steps.push(step)
     }
 
-    /// A local value more, which stands at this spot in code.
+    /// A `let` more, whose value the point of this number notes.
     pub fn enter(
         &mut self,
         alloc: Global,
         name: &Name,
         kind: Kind,
-        spot: Spot,
+        number: usize,
     ) -> Result<(), NoMemory>
         ensures { OnOk result (self.new ≡ record self.old {
           kinds = (name.now, Value kind) ∷ self.old.kinds;
           names = (name.now, Value kind) ∷ self.old.names;
-          spots = self.old.spots ++ spot ∷ [];
+          spots = self.old.spots ++ places.Note number ∷ [];
         }) }
     {
         self.kinds.enter(alloc, name, Meaning::Value(kind))?;
         self.names.enter(alloc, name, Meaning::Value(kind))?;
-        self.spots.push(spot)?;
+        self.spots.push(Spot::Note(number))?;
         Ok(())
     }
 
@@ -118,6 +120,24 @@ impl Builder {
         Ok(self.steps.len())
     }
 
+    // The code of an expression among the names at this place, where the first of its Reads has this number.
+    fn code(
+        &self,
+        alloc: Global,
+        kind: Kind,
+        first: usize,
+        expr: &Expr,
+    ) -> Result<Code, AllocError>
+        requires { first + numbers true expr.now < 2 ^ 64 }
+        ensures { IfOk result (λ code. IsCode self.now.names self.now.spots kind first expr.now code) }
+    {
+        let names = Names {
+            scope: &self.names,
+            spots: self.spots.as_slice(),
+        };
+        compile(alloc, &names, kind, first, expr)
+    }
+
     /// The Reads of an expression, and the code of its value.
     pub fn compute(&mut self, alloc: Global, kind: Kind, expr: &Expr) -> Result<Code, AllocError>
         ensures reads { OnOk result (self.new ≡ spec.with_reads self.old (reads expr.now)) }
@@ -125,10 +145,6 @@ impl Builder {
     {
         let first = self.steps.len();
         self.reads(expr)?;
-        let names = Names {
-            scope: &self.names,
-            spots: self.spots.as_slice(),
-        };
-        compile(alloc, &names, kind, first, expr)
+        self.code(alloc, kind, first, expr)
     }
 }
