@@ -121,13 +121,7 @@ impl Builder {
     }
 
     // The code of an expression among the names at this place, where the first of its Reads has this number.
-    fn code(
-        &self,
-        alloc: Global,
-        kind: Kind,
-        first: usize,
-        expr: &Expr,
-    ) -> Result<Code, AllocError>
+    fn code(&self, alloc: Global, kind: Kind, first: usize, expr: &Expr) -> Result<Code, AllocError>
         requires { first + numbers true expr.now < 2 ^ 64 }
         ensures { IfOk result (λ code. IsCode self.now.names self.now.spots kind first expr.now code) }
     {
