@@ -72,8 +72,8 @@ impl Builder {
 }
 
 fn all_steps(
-    builder: &mut Builder,
     alloc: Global,
+    builder: &mut Builder,
     texts: &[CallText],
 ) -> Result<Items<Items<Step>>, NoMemory>
     requires between { spec.IsAtGlobals builder.old }
@@ -99,7 +99,7 @@ pub fn compile_loops(
     ensures { IfOk result (λ codes. codes ≡ record { names = globals; texts = texts }) }
 {
     let mut builder = globals.into_builder(alloc);
-    let steps = all_steps(&mut builder, alloc, texts.as_slice())?;
+    let steps = all_steps(alloc, &mut builder, texts.as_slice())?;
     let Builder { globals: names, .. } = builder;
     Ok(LoopCodes {
         names,
