@@ -1,0 +1,15 @@
+pub mod AffineKept
+pub mod Alike
+pub mod BodiesAlike
+pub mod GlobalNames
+pub mod Goings
+pub mod LoopHeads
+pub mod LoopSteps
+pub mod LoopsShown
+pub mod Placed
+pub mod PointsOfLoops
+pub mod ReadSteps
+pub mod ReadsAlike
+pub mod Spots
+pub mod Statements
+pub mod Values
