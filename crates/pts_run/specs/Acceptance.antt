@@ -3,7 +3,6 @@ use Rattle.std.specs.Prelude.{◌≡◌, ℕ, Some, None, unwrap_or, List, [], �
 use Rattle.pts_tree.specs.declared.script.Item.{Item}
 use Rattle.pts_tree.specs.declared.script.Item.TheVariants as items
 use Rattle.pts_tree.specs.declared.script.Script.{Script}
-use Rattle.pts_rules.specs.Parts.{Name}
 use Rattle.pts_program.specs.declared.fault.BuildFault.{BuildFault}
 use Rattle.pts_program.specs.declared.fault.BuildFault.TheVariants as faults
 use Rattle.pts_program.specs.declared.lists.Lists.{Lists}
@@ -40,12 +39,12 @@ HasFault script fault = (item : ℕ) × IsFaultAt script item fault
 abbrev pub IsLater : Script → ℕ → Type 0
 IsLater script item = IsSound script × (first_later (lists_of script) ≡ Some item)
 
-abbrev pub names_in : Item → List Name
+abbrev pub names_in : Item → List (List ℕ)
 names_in (items.Array x) = x.name ∷ []
 names_in x = []
 
 -- the name in the declaration of the array of this number, counted from 0 in text order; empty where there is none
-abbrev pub array_name : Script → ℕ → Name
+abbrev pub array_name : Script → ℕ → List ℕ
 array_name script n = unwrap_or (slice_get (flat_map names_in script.items) n) []
 
 -- the least conflict of these lists, with the name of its array in the script
