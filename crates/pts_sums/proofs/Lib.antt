@@ -1,0 +1,3 @@
+pub mod GroupFolds
+pub mod Singles
+pub mod Stretches

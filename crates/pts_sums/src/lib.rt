@@ -1,0 +1,7 @@
+//! Sums and scans of a running program.
+#![tactic(auto)]
+
+mod folds;
+mod groupings;
+mod groups;
+mod terms;

@@ -1,0 +1,32 @@
+//! What is summed: items, and the operation that combines two values.
+
+ghost use Rattle.std.specs.Prelude.{◌≡◌, ◌<◌, Option as Maybe, Some, List, length, slice_get};
+ghost use Rattle.pts_types.specs.declared.value.Value.{Value as Cell};
+
+use pts_types::Value;
+
+/// The items of a call, by their positions, and its operation. An item is what the elements at its position bring: a value, or
+/// None for a throw.
+pub(crate) trait Terms {
+    /// What all calls ask of it.
+    ghost condition: { Self → Type 0 };
+
+    ghost items: { Self → List (Maybe Cell) };
+
+    ghost op: { Self → Cell → Cell → Maybe Cell };
+
+    /// How many positions there are.
+    fn count(&self) -> u32
+        requires { condition self.now }
+        ensures { result ≡ length (items self.now) };
+
+    /// The item at a position.
+    fn item(&self, at: u32) -> Option<Value>
+        requires condition { condition self.now }
+        requires within { at < length (items self.now) }
+        ensures { Some result ≡ slice_get (items self.now) at };
+
+    /// What the operation makes of two values; None where it throws.
+    fn combine(&self, x: Value, y: Value) -> Option<Value>
+        ensures { result ≡ op self.now x y };
+}
