@@ -1,3 +1,4 @@
 pub mod GroupFolds
+pub mod PutPlaces
 pub mod Singles
 pub mod Stretches

@@ -4,4 +4,5 @@
 mod folds;
 mod groupings;
 mod groups;
+mod places;
 mod terms;

@@ -1,0 +1,28 @@
+-- Places of a scan: what a stretch of them holds, and what it is to write them.
+use Rattle.std.specs.Prelude.{◌≡◌, ⊤, ℕ, Bool, true, false, Option, Some, None, List, [], ◌∷◌, ◌++◌, length, take}
+use Rattle.pts_types.specs.declared.value.Value.{Value}
+use Rattle.pts_store.specs.Steps.{Step, AreOf}
+use Rattle.pts_store.specs.Writes.{Writes}
+use Rattle.pts_groupings.specs.Scans.{Scan, Inclusive, Exclusive}
+use Rattle.pts_sums.specs.Folds.{with_item, outcome_in}
+use Rattle.pts_sums.specs.Temp.{steps_from}
+
+-- the outcomes of a fold, behind each of these items more
+abbrev pub outcomes_after : {V : Type 0} → (V → V → Option V) → Option (Option V) → List (Option V) → List (Option V)
+outcomes_after op so_far [] = []
+outcomes_after op so_far (item ∷ rest) = outcome_in (with_item op so_far item) ∷ outcomes_after op (with_item op so_far item) rest
+
+-- the places of these items, where a fold has come so far before them
+abbrev pub places_after : {V : Type 0} → Scan → (V → V → Option V) → Option (Option V) → List (Option V) → List (Option V)
+places_after Inclusive op so_far items = outcomes_after op so_far items
+places_after Exclusive op so_far items = take (length items) (outcome_in so_far ∷ outcomes_after op so_far items)
+
+-- these steps more
+abbrev pub PutsSteps : Writes → Writes → List Step → Type 0
+PutsSteps old new steps = (earlier : List Step) → AreOf earlier old → AreOf (earlier ++ steps) new
+
+-- values for cells from one on are written, all of them, or not all since one of them is a throw
+abbrev pub Puts : Bool → Option (List Value) → ℕ → ℕ → Writes → Writes → Type 0
+Puts true (Some values) array index old new = PutsSteps old new (steps_from array index values)
+Puts false None array index old new = ⊤
+Puts all values array index old new = ⊥
