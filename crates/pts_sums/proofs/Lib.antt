@@ -1,3 +1,5 @@
+pub mod ChunkPlaces
+pub mod ChunkWrites
 pub mod GroupFolds
 pub mod PutPlaces
 pub mod Singles

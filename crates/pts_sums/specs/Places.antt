@@ -1,10 +1,14 @@
 -- Places of a scan: what a stretch of them holds, and what it is to write them.
-use Rattle.std.specs.Prelude.{◌≡◌, ⊤, ℕ, Bool, true, false, Option, Some, None, List, [], ◌∷◌, ◌++◌, length, take}
+use Rattle.std.specs.Prelude.{◌≡◌, ⊤, ℕ, Bool, true, false, Option, Some, None, List, [], ◌∷◌, ◌++◌, length, map, take}
+use Rattle.std.specs.List.{range_with_len}
+use Rattle.std.specs.Option.{option_map}
 use Rattle.pts_types.specs.declared.value.Value.{Value}
 use Rattle.pts_store.specs.Steps.{Step, AreOf}
 use Rattle.pts_store.specs.Writes.{Writes}
+use Rattle.pts_groupings.specs.Chunks.{chunk}
 use Rattle.pts_groupings.specs.Scans.{Scan, Inclusive, Exclusive}
-use Rattle.pts_sums.specs.Folds.{with_item, outcome_in}
+use Rattle.pts_groupings.specs.Sums.{folded}
+use Rattle.pts_sums.specs.Folds.{with_item, with_items, outcome_in}
 use Rattle.pts_sums.specs.Temp.{steps_from}
 
 -- the outcomes of a fold, behind each of these items more
@@ -16,6 +20,10 @@ outcomes_after op so_far (item ∷ rest) = outcome_in (with_item op so_far item)
 abbrev pub places_after : {V : Type 0} → Scan → (V → V → Option V) → Option (Option V) → List (Option V) → List (Option V)
 places_after Inclusive op so_far items = outcomes_after op so_far items
 places_after Exclusive op so_far items = take (length items) (outcome_in so_far ∷ outcomes_after op so_far items)
+
+-- how far a fold has come before a chunk: init, and the folds of the chunks before it
+abbrev pub start_of : {V : Type 0} → (V → V → Option V) → ℕ → Option V → List (Option V) → ℕ → Option (Option V)
+start_of op size init items c = with_items op (option_map Some init) (map (λ earlier. folded op (chunk size items earlier)) (range_with_len 0 c))
 
 -- these steps more
 abbrev pub PutsSteps : Writes → Writes → List Step → Type 0

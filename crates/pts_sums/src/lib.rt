@@ -5,4 +5,5 @@ mod folds;
 mod groupings;
 mod groups;
 mod places;
+mod temp;
 mod terms;

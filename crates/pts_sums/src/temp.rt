@@ -1,0 +1,6 @@
+//! Temporary.
+#[derive(Clone, Copy, Debug, PartialEq, Eq)]
+pub enum ScanOrder {
+    Inclusive,
+    Exclusive,
+}
