@@ -81,7 +81,7 @@ module _ {V : Type 0} (op : V → V → Option V) where
 
   -- ---- places
 
-  started : (init : Option V) (items : List (Option V)) → folded op (cons_option (option_map Some init) items) ≡ outcome_in (with_items op (option_map Some init) items)
+  pub started : (init : Option V) (items : List (Option V)) → folded op (cons_option (option_map Some init) items) ≡ outcome_in (with_items op (option_map Some init) items)
   started None items = folded_as op items
   started (Some v) items = sym (ap outcome_in (begun op (Some v) items))
 

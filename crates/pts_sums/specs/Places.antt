@@ -6,7 +6,8 @@ use Rattle.pts_types.specs.declared.value.Value.{Value}
 use Rattle.pts_store.specs.Steps.{Step, AreOf}
 use Rattle.pts_store.specs.Writes.{Writes}
 use Rattle.pts_groupings.specs.Chunks.{chunk}
-use Rattle.pts_groupings.specs.Scans.{Scan, Inclusive, Exclusive}
+use Rattle.pts_types.specs.declared.operation.Policy.TheVariants.{Seq}
+use Rattle.pts_groupings.specs.Scans.{Scan, Inclusive, Exclusive, place}
 use Rattle.pts_groupings.specs.Sums.{folded}
 use Rattle.pts_sums.specs.Folds.{with_item, with_items, outcome_in}
 use Rattle.pts_sums.specs.Temp.{steps_from}
@@ -34,3 +35,18 @@ abbrev pub Puts : Bool → Option (List Value) → ℕ → ℕ → Writes → Wr
 Puts true (Some values) array index old new = PutsSteps old new (steps_from array index values)
 Puts false None array index old new = ⊤
 Puts all values array index old new = ⊥
+
+-- these places are what is written to cells from one on, or one of them is a throw
+abbrev pub AreWritten : Option (List Value) → ℕ → ℕ → Option Writes → Type 0
+AreWritten (Some values) array index (Some writes) = AreOf (steps_from array index values) writes
+AreWritten None array index None = ⊤
+AreWritten values array index writes = ⊥
+
+-- the next place of a scan, where a fold has come so far before its own item
+abbrev pub next_place : {V : Type 0} → Scan → (V → V → Option V) → Option (Option V) → Option V → Option V
+next_place Inclusive op so_far item = outcome_in (with_item op so_far item)
+next_place Exclusive op so_far item = outcome_in so_far
+
+-- the places in index order, by the elements that have been read
+abbrev pub place_in_turn : Scan → (Value → Value → Option Value) → (Value → Option Value) → Option Value → List Value → ℕ → Option Value
+place_in_turn scan op item init elements p = place Seq scan 1 op init (map item elements) p

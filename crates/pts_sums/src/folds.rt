@@ -6,7 +6,7 @@ ghost use Rattle.pts_groupings.specs.Brackets.{combined};
 ghost use Rattle.pts_groupings.specs.Chunks.{chunk};
 ghost use Rattle.pts_sums.specs.Folds.{outcome_in, with_item, with_items};
 
-use crate::terms::Terms;
+use crate::terms::{Combining, Terms};
 use pts_types::Value;
 
 /// How far a fold has come: None before its first item, else its outcome, which is None where something threw.
@@ -33,7 +33,7 @@ pub(crate) fn outcome_of(so_far: Fold) -> Option<Value>
 }
 
 /// What the operation makes of two outcomes.
-pub(crate) fn combine_outcomes<T: Terms>(
+pub(crate) fn combine_outcomes<T: Combining>(
     terms: &T,
     x: Option<Value>,
     y: Option<Value>,
@@ -47,7 +47,7 @@ pub(crate) fn combine_outcomes<T: Terms>(
 }
 
 /// One item more.
-pub(crate) fn add_item<T: Terms>(terms: &T, so_far: Fold, item: Option<Value>) -> Fold
+pub(crate) fn add_item<T: Combining>(terms: &T, so_far: Fold, item: Option<Value>) -> Fold
     ensures { result ≡ with_item (T.op terms.now) so_far item }
 {
     match so_far {

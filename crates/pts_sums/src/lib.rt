@@ -5,5 +5,6 @@ mod folds;
 mod groupings;
 mod groups;
 mod places;
+mod sequences;
 mod temp;
 mod terms;

@@ -4,3 +4,10 @@ pub enum ScanOrder {
     Inclusive,
     Exclusive,
 }
+
+#[derive(Clone, Copy, Debug, PartialEq, Eq)]
+pub struct CellRange {
+    pub array: u32,
+    pub low: u32,
+    pub high: u32,
+}

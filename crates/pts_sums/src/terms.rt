@@ -5,15 +5,29 @@ ghost use Rattle.pts_types.specs.declared.value.Value.{Value as Cell};
 
 use pts_types::Value;
 
-/// The items of a call, by their positions, and its operation. An item is what the elements at its position bring: a value, or
-/// None for a throw.
-pub(crate) trait Terms {
+/// The operation of a call.
+pub(crate) trait Combining {
+    ghost op: { Self → Cell → Cell → Maybe Cell };
+
+    /// What the operation makes of two values; None where it throws.
+    fn combine(&self, x: Value, y: Value) -> Option<Value>
+        ensures { result ≡ op self.now x y };
+}
+
+/// What an element brings to a sum: a value, or None for a throw.
+pub(crate) trait Transforming: Combining {
+    ghost item: { Self → Cell → Maybe Cell };
+
+    fn item_of(&self, element: Value) -> Option<Value>
+        ensures { result ≡ item self.now element };
+}
+
+/// The items of a call, by their positions: what the elements at each position bring.
+pub(crate) trait Terms: Combining {
     /// What all calls ask of it.
     ghost condition: { Self → Type 0 };
 
     ghost items: { Self → List (Maybe Cell) };
-
-    ghost op: { Self → Cell → Cell → Maybe Cell };
 
     /// How many positions there are.
     fn count(&self) -> u32
@@ -25,8 +39,4 @@ pub(crate) trait Terms {
         requires condition { condition self.now }
         requires within { at < length (items self.now) }
         ensures { Some result ≡ slice_get (items self.now) at };
-
-    /// What the operation makes of two values; None where it throws.
-    fn combine(&self, x: Value, y: Value) -> Option<Value>
-        ensures { result ≡ op self.now x y };
 }

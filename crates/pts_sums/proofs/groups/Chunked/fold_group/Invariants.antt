@@ -8,6 +8,6 @@ use Rattle.pts_sums.proofs.groups.Chunked.fold_group.Given as goal
 abbrev pub invariant-loop-number : goal.invariant-loop-number
 invariant-loop-number g l =
     let items = g.T.Terms.items l.self.terms.now in
-    let op = g.T.Terms.op l.self.terms.now in
+    let op = g.T.Combining.op l.self.terms.now in
     with_items op l.so_far (flat_map (chunk l.self.pool.chunk items) (drop l.number-index l.group))
     ≡ with_items op l.fn.so_far (flat_map (chunk l.self.pool.chunk items) l.group)

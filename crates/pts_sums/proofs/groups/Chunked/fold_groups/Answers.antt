@@ -9,4 +9,4 @@ pub returns : goal.returns
 returns g c =
     let none : drop c.loop-group.group-index c.args.groups.now ≡ [] = grind (arith, common_steps) in
     let f = flat_map (chunk c.args.self.now.pool.chunk (g.T.Terms.items c.args.self.now.terms.now)) in
-    c.outcome_of.ensures ∙ fold_done (g.T.Terms.op c.args.self.now.terms.now) _ c.args.init (flat_map f c.args.groups.now) (flat_map f (drop c.loop-group.group-index c.args.groups.now)) (ap (flat_map f) none) c.loop-group.invariant
+    c.outcome_of.ensures ∙ fold_done (g.T.Combining.op c.args.self.now.terms.now) _ c.args.init (flat_map f c.args.groups.now) (flat_map f (drop c.loop-group.group-index c.args.groups.now)) (ap (flat_map f) none) c.loop-group.invariant

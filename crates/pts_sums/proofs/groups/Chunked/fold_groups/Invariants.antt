@@ -8,6 +8,6 @@ use Rattle.pts_sums.proofs.groups.Chunked.fold_groups.Given as goal
 abbrev pub invariant-loop-group : goal.invariant-loop-group
 invariant-loop-group g l =
     let items = g.T.Terms.items l.self.terms.now in
-    let op = g.T.Terms.op l.self.terms.now in
+    let op = g.T.Combining.op l.self.terms.now in
     with_items op l.so_far (flat_map (flat_map (chunk l.self.pool.chunk items)) (drop l.group-index l.groups))
     ≡ with_items op (Some (Some l.fn.init)) (flat_map (flat_map (chunk l.self.pool.chunk items)) l.groups)

@@ -9,6 +9,6 @@ use Rattle.pts_sums.proofs.groups.Chunked.sum_groups.Given as goal
 abbrev pub invariant-loop-group : goal.invariant-loop-group
 invariant-loop-group g l =
     let items = g.T.Terms.items l.self.terms.now in
-    let op = g.T.Terms.op l.self.terms.now in
+    let op = g.T.Combining.op l.self.terms.now in
     fold (combined op) l.total (map (λ group. folded op (flat_map (chunk l.self.pool.chunk items) group)) (drop l.group-index l.groups))
     ≡ fold (combined op) (Some l.fn.init) (map (λ group. folded op (flat_map (chunk l.self.pool.chunk items) group)) l.groups)

@@ -9,14 +9,14 @@ use Rattle.pts_sums.proofs.places.Scanner.write_chunks.Goals as goal
 
 pub loop-number-init : goal.loop-number-init
 loop-number-init g c =
-    let op = g.T.Terms.op c.args.self.now.terms.now in
+    let op = g.T.Combining.op c.args.self.now.terms.now in
     let items = g.T.Terms.items c.args.self.now.terms.now in
     (λ l. c.begin-start.ensures,
     λ all new h. write_begun op (order_of c.args.self.now.order) c.args.size c.args.init items c.args.self.now.array c.args.self.now.first all c.args.writes.now new h)
 
 pub returns-then-not-branch : goal.returns-then-not-branch
 returns-then-not-branch g c =
-    let op = g.T.Terms.op c.args.self.now.terms.now in
+    let op = g.T.Combining.op c.args.self.now.terms.now in
     let items = g.T.Terms.items c.args.self.now.terms.now in
     let count : c.div_ceil-chunks.result ≡ chunk_count (length items) c.args.size = c.div_ceil-chunks.ensures ∙ ap (λ n. chunk_count n c.args.size) c.count.ensures in
     let below : c.loop-number.number < c.div_ceil-chunks.result = c.loop-number-test.true in
@@ -27,7 +27,7 @@ returns-then-not-branch g c =
 
 pub loop-number-preserved : goal.loop-number-preserved
 loop-number-preserved g c =
-    let op = g.T.Terms.op c.args.self.now.terms.now in
+    let op = g.T.Combining.op c.args.self.now.terms.now in
     let items = g.T.Terms.items c.args.self.now.terms.now in
     let count : c.div_ceil-chunks.result ≡ chunk_count (length items) c.args.size = c.div_ceil-chunks.ensures ∙ ap (λ n. chunk_count n c.args.size) c.count.ensures in
     let below : c.loop-number.number < c.div_ceil-chunks.result = c.loop-number-test.true in
@@ -44,7 +44,7 @@ loop-number-preserved g c =
 
 pub returns : goal.returns
 returns g c =
-    let op = g.T.Terms.op c.args.self.now.terms.now in
+    let op = g.T.Combining.op c.args.self.now.terms.now in
     let items = g.T.Terms.items c.args.self.now.terms.now in
     let count : c.div_ceil-chunks.result ≡ chunk_count (length items) c.args.size = c.div_ceil-chunks.ensures ∙ ap (λ n. chunk_count n c.args.size) c.count.ensures in
     let done : c.div_ceil-chunks.result ≤ c.loop-number.number = c.loop-number-test.false in

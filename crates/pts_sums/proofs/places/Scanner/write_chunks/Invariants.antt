@@ -12,7 +12,7 @@ use Rattle.pts_sums.proofs.places.Scanner.write_chunks.Given as goal
 abbrev pub invariant-loop-number : goal.invariant-loop-number
 invariant-loop-number g l =
     let items = g.T.Terms.items l.self.terms.now in
-    let op = g.T.Terms.op l.self.terms.now in
+    let op = g.T.Combining.op l.self.terms.now in
     let places = map (place Par (order_of l.self.order) l.size op l.fn.init items) (range_with_len 0 (length items)) in
     (l.number < l.chunks → l.start ≡ start_of op l.size l.fn.init items l.number)
     × ((all : Bool) (new : Writes) → Puts all (all_given (drop (l.number * l.size) places)) l.self.array (l.self.first + l.number * l.size) l.writes new
