@@ -18,9 +18,9 @@ use Rattle.pts_groupings.specs.Sums.{all_given, folded}
 use Rattle.pts_groupings.proofs.Places.{map-range_same}
 use Rattle.pts_groupings.proofs.Throws.{given_none}
 use Rattle.pts_sums.specs.Folds.{with_item, with_items, outcome_in}
-use Rattle.pts_sums.specs.Places.{next_place, place_in_turn, Puts, AreWritten}
-use Rattle.pts_sums.specs.Temp.{elements_in_turn, steps_from, with_places}
-use Rattle.pts_sums.specs.declared.temp.CellRange.{CellRange}
+use Rattle.pts_sums.specs.Places.{next_place, turn_place, Puts, AreWritten}
+use Rattle.pts_eval.specs.Sums.{elements_in_turn, steps_from, with_places}
+use Rattle.pts_lowering.specs.declared.forms.CellRange.{CellRange}
 use Rattle.pts_sums.proofs.ChunkPlaces.{started}
 use Rattle.pts_sums.proofs.PutPlaces.{put_both, put_first, put_none}
 use Rattle.pts_sums.proofs.Singles.{number_more}
@@ -43,7 +43,7 @@ places-more store array index (Some w ∷ xs) v =
 module _ (scan : Scan) (op : Value → Value → Option Value) (item : Value → Option Value) (init : Option Value) where
   -- the place at a position, by the elements that have been read
   abbrev pub at_place : List Value → ℕ → Option Value
-  at_place = place_in_turn scan op item init
+  at_place = turn_place scan op item init
 
   -- a place needs no later elements
   place-more : (xs ys : List Value) (p : ℕ) → reach scan p ≤ length xs → at_place (xs ++ ys) p ≡ at_place xs p
@@ -59,7 +59,7 @@ module _ (scan : Scan) (op : Value → Value → Option Value) (item : Value →
   fold-more : (xs : List Value) (x : Value) → fold_of (xs ++ x ∷ []) ≡ with_item op (fold_of xs) (item x)
   fold-more xs x = ap (with_items op (option_map Some init)) (map-append item xs (x ∷ [])) ∙ fold-append (with_item op) (option_map Some init) (map item xs) (item x ∷ [])
 
-  own_place : (order : Scan) (xs : List Value) (x : Value) → place_in_turn order op item init (xs ++ x ∷ []) (length xs) ≡ next_place order op (fold_of xs) (item x)
+  own_place : (order : Scan) (xs : List Value) (x : Value) → turn_place order op item init (xs ++ x ∷ []) (length xs) ≡ next_place order op (fold_of xs) (item x)
   own_place Inclusive xs x =
       let count = length-map (xs ++ x ∷ []) item in
       let sum = length-append xs (x ∷ []) in
@@ -106,9 +106,10 @@ module _ (scan : Scan) (op : Value → Value → Option Value) (item : Value →
     elements-behind m zero = ([], ap elements (let e : m + zero ≡ m = omega arith in e) ∙ sym (append-nil (elements m)))
     elements-behind m (suc k) =
         let before = elements-behind m k in
-        let own = option_to_list (slice_get (cells_in (with_places store target.array target.low (first_places (m + k))) source.array) (source.low + (m + k))) in
-        (before.0 ++ own,
-        ap elements (let e : m + suc k ≡ suc (m + k) = omega arith in e) ∙ ap (λ xs. xs ++ own) before.1 ∙ append_assoc (elements m) before.0 own)
+        let own = option_to_list (slice_get (cells_in (with_places store target.array target.low (first_places (m + k))) source.array) (source.low + (m + k))) in (
+          before.0 ++ own,
+          ap elements (let e : m + suc k ≡ suc (m + k) = omega arith in e) ∙ ap (λ xs. xs ++ own) before.1 ∙ append_assoc (elements m) before.0 own,
+        )
 
     -- a throw at one place
     pub throw_at : (p n : ℕ) → p < n → length (elements (p + 1)) ≡ p + 1 → at_place (elements (p + 1)) p ≡ None → all_given (first_places n) ≡ None
@@ -122,8 +123,8 @@ module _ (scan : Scan) (op : Value → Value → Option Value) (item : Value →
 
     -- a place more is written
     module _ (p : ℕ) (element value : Value) (own : Option Value) (now after : Store) (written all_written : Writes)
-      (stands : now ≡ with_places store target.array target.low (first_places p)) (count : length (elements p) ≡ p)
-      (read : Some element ≡ slice_get (cells_in now source.array) (source.low + p)) (e : own ≡ next_place scan op (fold_of (elements p)) (item element)) where
+        (stands : now ≡ with_places store target.array target.low (first_places p)) (count : length (elements p) ≡ p)
+        (read : Some element ≡ slice_get (cells_in now source.array) (source.low + p)) (e : own ≡ next_place scan op (fold_of (elements p)) (item element)) where
       abbrev read_here : Some element ≡ slice_get (cells_in (with_places store target.array target.low (first_places p)) source.array) (source.low + p)
       read_here = read ∙ ap (λ s. slice_get (cells_in s source.array) (source.low + p)) stands
 
@@ -165,12 +166,47 @@ module _ (scan : Scan) (op : Value → Value → Option Value) (item : Value →
 pub length-put : (store : Store) (array index : ℕ) (value : Value) (a n : ℕ) → length (cells_in store a) ≡ n → length (cells_in (put_cell store array index value) a) ≡ n
 length-put store array index value a n e = (let shape : SameShape store (put_cell store array index value) = putting_keeps_shape store array index value in shape.cells a) ∙ e
 
-pub all_or_none : (places : List (Option Value)) (array index : ℕ) (writes : Writes) → Puts true (all_given places) array index [] writes → AreWritten (all_given places) array index (Some writes)
-all_or_none places array index writes h = by_given (all_given places) h
-  where
-    by_given : (given : Option (List Value)) → Puts true given array index [] writes → AreWritten given array index (Some writes)
-    by_given (Some values) h = h [] no_steps
-    by_given None h = h
+-- places keep the lengths of arrays, too
+length-places : (store : Store) (array index : ℕ) (places : List (Option Value)) (a : ℕ) → length (cells_in (with_places store array index places) a) ≡ length (cells_in store a)
+length-places store array index [] a = refl
+length-places store array index (None ∷ rest) a = length-places store array (index + 1) rest a
+length-places store array index (Some v ∷ rest) a = length-places (put_cell store array index v) array (index + 1) rest a ∙ length-put store array index v a (length (cells_in store a)) refl
+
+one_read : (xs : List Value) (index : ℕ) → index < length xs → length (option_to_list (slice_get xs index)) ≡ 1
+one_read [] index l = absurd (omega (arith, l))
+one_read (x ∷ xs) zero l = refl
+one_read (x ∷ xs) (suc index) l = one_read xs index (omega (arith, l))
+
+-- every element is there to be read
+pub all_read : (scan : Scan) (op : Value → Value → Option Value) (item : Value → Option Value) (init : Option Value) (store : Store) (source target : CellRange) (n p : ℕ)
+    → ((q : ℕ) → q < n → source.low + q < length (cells_in store source.array)) → p ≤ n → length (elements_in_turn (turn_place scan op item init) store source target p) ≡ p
+all_read scan op item init store source target n zero cell l = refl
+all_read scan op item init store source target n (suc p) cell l =
+    let earlier = elements_in_turn (turn_place scan op item init) store source target p in
+    let places = map (turn_place scan op item init earlier) (range_with_len 0 p) in
+    let now = cells_in (with_places store target.array target.low places) source.array in
+    let before = all_read scan op item init store source target n p cell (omega (arith, l)) in
+    let size = length-places store target.array target.low places source.array in
+    let here = cell p (omega (arith, l)) in
+    let one = one_read now (source.low + p) (omega (arith, here, size)) in
+    let sum = length-append earlier (option_to_list (slice_get now (source.low + p))) in
+    omega (arith, sum, one, before)
+
+-- ---- what is answered
+
+-- all places are written
+pub all_written : (values : Option (List Value)) (all : Bool) (array index : ℕ) (old new : Writes) → old ≡ [] → all ≡ true → Puts all values array index old new → AreWritten values array index (Some new)
+all_written (Some values) true array index old new e e' h = h [] (subst (AreOf []) (sym e) no_steps)
+all_written (Some values) false array index old new e e' h = absurd h
+all_written None true array index old new e e' h = absurd h
+all_written None false array index old new e e' h = absurd (cc)
+
+-- or one of them is a throw
+pub thrown_away : (values : Option (List Value)) (all : Bool) (array index : ℕ) (old new : Writes) → all ≡ false → Puts all values array index old new → AreWritten values array index None
+thrown_away (Some values) true array index old new e h = absurd (cc)
+thrown_away (Some values) false array index old new e h = absurd h
+thrown_away None true array index old new e h = absurd h
+thrown_away None false array index old new e h = tt
 
 pub none_written : (values : Option (List Value)) (array index : ℕ) → values ≡ None → AreWritten values array index None
 none_written values array index e = subst (λ o. AreWritten o array index None) (sym e) tt

@@ -16,7 +16,7 @@ use Rattle.pts_groupings.proofs.Scans.{given_values}
 use Rattle.pts_groupings.proofs.Throws.{Items, Values, Throws, given_none, items_of}
 use Rattle.pts_sums.specs.Folds.{with_item, outcome_in}
 use Rattle.pts_sums.specs.Places.{outcomes_after, places_after, PutsSteps, Puts}
-use Rattle.pts_sums.specs.Temp.{steps_from}
+use Rattle.pts_eval.specs.Sums.{steps_from}
 use Rattle.pts_sums.proofs.Stretches.{item_more}
 
 -- nothing more

@@ -10,7 +10,7 @@ use Rattle.pts_types.specs.declared.operation.Policy.TheVariants.{Seq}
 use Rattle.pts_groupings.specs.Scans.{Scan, Inclusive, Exclusive, place}
 use Rattle.pts_groupings.specs.Sums.{folded}
 use Rattle.pts_sums.specs.Folds.{with_item, with_items, outcome_in}
-use Rattle.pts_sums.specs.Temp.{steps_from}
+use Rattle.pts_eval.specs.Sums.{steps_from}
 
 -- the outcomes of a fold, behind each of these items more
 abbrev pub outcomes_after : {V : Type 0} → (V → V → Option V) → Option (Option V) → List (Option V) → List (Option V)
@@ -48,5 +48,5 @@ next_place Inclusive op so_far item = outcome_in (with_item op so_far item)
 next_place Exclusive op so_far item = outcome_in so_far
 
 -- the places in index order, by the elements that have been read
-abbrev pub place_in_turn : Scan → (Value → Value → Option Value) → (Value → Option Value) → Option Value → List Value → ℕ → Option Value
-place_in_turn scan op item init elements p = place Seq scan 1 op init (map item elements) p
+abbrev pub turn_place : Scan → (Value → Value → Option Value) → (Value → Option Value) → Option Value → List Value → ℕ → Option Value
+turn_place scan op item init elements p = place Seq scan 1 op init (map item elements) p

@@ -14,6 +14,7 @@ use pts_types::{Policy, Value};
 use sqlite_items::Items;
 
 /// The terms of a call, which a pool cuts into chunks. Each chunk passes the gate.
+#[derive(Drop)]
 pub(crate) struct Chunked<'a, T, G> {
     pub terms: &'a T,
     pub gate: &'a G,

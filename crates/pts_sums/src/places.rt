@@ -6,16 +6,17 @@ ghost use Rattle.pts_groupings.specs.Scans.{Exclusive, places_of};
 ghost use Rattle.pts_groupings.specs.Sums.{all_given, folded};
 ghost use Rattle.pts_sums.specs.Folds.{with_item};
 ghost use Rattle.pts_sums.specs.Places.{outcomes_after, places_after, Puts};
-ghost use Rattle.pts_sums.specs.Temp.{order_of};
+ghost use Rattle.pts_eval.specs.Sums.{order_of};
 
 use crate::folds::{Fold, add_item, begin, chunk_ends, fold_chunk, outcome_of};
-use crate::temp::ScanOrder;
 use crate::terms::Terms;
 use pts_boards::{Gate, Passing};
+use pts_lowering::ScanOrder;
 use pts_store::Writes;
 use pts_types::{NoMemory, Policy, Value};
 
 /// A scan of some terms, which writes to the cells of an array from `first` on.
+#[derive(Drop)]
 pub(crate) struct Scanner<'a, T> {
     pub terms: &'a T,
     pub order: ScanOrder,

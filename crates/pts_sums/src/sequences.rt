@@ -5,18 +5,19 @@ ghost use Rattle.std.specs.List.{range_with_len};
 ghost use Rattle.pts_store.specs.Stores.{cells_in};
 ghost use Rattle.pts_groupings.specs.Sums.{all_given};
 ghost use Rattle.pts_sums.specs.Folds.{with_item};
-ghost use Rattle.pts_sums.specs.Places.{next_place, place_in_turn, AreWritten};
-ghost use Rattle.pts_sums.specs.Temp.{elements_in_turn, order_of};
+ghost use Rattle.pts_sums.specs.Places.{next_place, turn_place, AreWritten};
+ghost use Rattle.pts_eval.specs.Sums.{elements_in_turn, order_of};
 
 use crate::folds::{Fold, add_item, begin, outcome_of};
-use crate::temp::{CellRange, ScanOrder};
 use crate::terms::Transforming;
 use pts_boards::{Gate, Passing};
+use pts_lowering::{CellRange, ScanOrder};
 use pts_store::{View, Writes};
 use pts_types::{NoMemory, Value};
 use std::alloc::Global;
 
 /// A scan from one range to another, of `count` positions.
+#[derive(Drop)]
 pub(crate) struct Sequence<'a, T> {
     pub operations: &'a T,
     pub order: ScanOrder,
@@ -75,11 +76,11 @@ impl<T: Transforming> Sequence<'_, T> {
         init: Option<Value>,
     ) -> Result<Option<Writes>, NoMemory>
         requires positive { 0 < size }
-        requires within { self.now.source.low + self.now.count ≤ length (cells_in (V.stands view.now) self.now.source.array) }
+        requires within { (p : ℕ) → p < self.now.count → self.now.source.low + p < length (cells_in (V.stands view.now) self.now.source.array) }
         requires room { self.now.target.low + self.now.count < 2 ^ 32 }
         requires indices { self.now.source.low + self.now.count < 2 ^ 32 }
         ensures { IfOk result (λ written.
-            let place = place_in_turn (order_of self.now.order) (T.op self.now.operations.now) (T.item self.now.operations.now) init in
+            let place = turn_place (order_of self.now.order) (T.op self.now.operations.now) (T.item self.now.operations.now) init in
             let elements = elements_in_turn place (V.stands view.now) self.now.source self.now.target self.now.count in
             AreWritten (all_given (map (place elements) (range_with_len 0 self.now.count))) self.now.target.array self.now.target.low written) }
     {

@@ -5,7 +5,7 @@ use Rattle.pts_store.specs.Writes.{Writes}
 use Rattle.pts_groupings.specs.Scans.{place}
 use Rattle.pts_groupings.specs.Sums.{all_given}
 use Rattle.pts_sums.specs.Places.{start_of, Puts}
-use Rattle.pts_sums.specs.Temp.{order_of}
+use Rattle.pts_eval.specs.Sums.{order_of}
 use Rattle.pts_sums.proofs.places.Scanner.write_chunks.Given as goal
 
 -- the fold has come to the next chunk; and however the places that are left end, so do all

@@ -4,8 +4,8 @@ use Rattle.pts_store.specs.Stores.{cells_in}
 use Rattle.pts_groupings.specs.Sums.{all_given}
 use Rattle.pts_sums.specs.Folds.{with_item}
 use Rattle.pts_sums.specs.Places.{next_place, AreWritten, Puts}
-use Rattle.pts_sums.specs.Temp.{order_of}
-use Rattle.pts_sums.proofs.InTurn.{all_or_none, elements, first_places, fold_of, length-put, next_count, next_fold, next_stands, next_written, none_written, thrown}
+use Rattle.pts_eval.specs.Sums.{order_of}
+use Rattle.pts_sums.proofs.InTurn.{all_written, elements, first_places, fold_of, length-put, next_count, next_fold, next_stands, next_written, none_written, thrown}
 use Rattle.pts_sums.proofs.PutPlaces.{put_none}
 use Rattle.pts_sums.proofs.sequences.Sequence.write_in_turn.Goals as goal
 
@@ -23,10 +23,9 @@ loop-at-init g c =
 
 pub cell-element-requires : goal.cell-element-requires
 cell-element-requires g c =
-    let within = c.requires.within in
+    let within = c.requires.within c.loop-at.at c.loop-at-test.true in
     let shape = c.loop-at.invariant.shape in
-    let below = c.loop-at-test.true in
-    omega (arith, within, shape, below)
+    omega (arith, within, shape)
 
 pub loop-at-preserved : goal.loop-at-preserved
 loop-at-preserved g c =
@@ -73,5 +72,5 @@ returns g c =
     let places = first_places order op item c.args.init store c.args.self.now.source c.args.self.now.target in
     let last : c.loop-at.at ≡ c.args.self.now.count = omega arith in
     let w = subst (λ n. Puts true (all_given (places n)) c.args.self.now.target.array c.args.self.now.target.low [] c.loop-at.layer.writes) last c.loop-at.invariant.written in
-    all_or_none (places c.args.self.now.count) c.args.self.now.target.array c.args.self.now.target.low c.into_writes.result
+    all_written (all_given (places c.args.self.now.count)) true c.args.self.now.target.array c.args.self.now.target.low [] c.into_writes.result refl refl
     (subst (λ v. Puts true (all_given (places c.args.self.now.count)) c.args.self.now.target.array c.args.self.now.target.low [] v) (sym c.into_writes.ensures.writes) w)

@@ -2,7 +2,7 @@ use Rattle.std.proofs.Common.{◌≡◌, ℕ, ◌<◌, true, [], length}
 use Rattle.pts_store.specs.Stores.{cells_in}
 use Rattle.pts_groupings.specs.Sums.{all_given}
 use Rattle.pts_sums.specs.Places.{Puts}
-use Rattle.pts_sums.specs.Temp.{order_of, with_places}
+use Rattle.pts_eval.specs.Sums.{order_of, with_places}
 use Rattle.pts_sums.proofs.InTurn.{elements, first_places, fold_of}
 use Rattle.pts_sums.proofs.sequences.Sequence.write_in_turn.Given as goal
 
@@ -19,5 +19,5 @@ invariant-loop-at g l =
       shape : length (cells_in l.layer.stands l.self.source.array) ≡ length (cells_in store l.self.source.array);
       count : length (read l.at) ≡ l.at;
       fold : l.at < l.self.count → l.so_far ≡ fold_of (order_of l.self.order) op item l.fn.init (read l.at);
-      written : Puts true (all_given (places l.at)) l.self.target.array l.self.target.low [] l.layer.writes
+      written : Puts true (all_given (places l.at)) l.self.target.array l.self.target.low [] l.layer.writes;
     }
