@@ -54,9 +54,11 @@ module _ (functions : List FunctionInfo) (store : Store) (call : Reduction) wher
   pub within_one : (at : ℕ) → call.second ≡ None → at < length (items_in functions store call) → at < length (range_in store call.first)
   within_one at e l = let count = count_one e in omega (arith, count, l)
 
-  pub within_pair : (second : CellRange) (at : ℕ) → call.second ≡ Some second → at < length (items_in functions store call)
-      → (at < length (range_in store call.first)) × (at < length (range_in store second))
-  within_pair second at e l = let count = count_two second e in (omega (arith, count, l), omega (arith, count, l))
+  pub within_first : (second : CellRange) (at : ℕ) → call.second ≡ Some second → at < length (items_in functions store call) → at < length (range_in store call.first)
+  within_first second at e l = let count = count_two second e in omega (arith, count, l)
+
+  pub within_second : (second : CellRange) (at : ℕ) → call.second ≡ Some second → at < length (items_in functions store call) → at < length (range_in store second)
+  within_second second at e l = let count = count_two second e in omega (arith, count, l)
 
   pub one_item : (at : ℕ) (element : Value) (item : Option Value) → call.second ≡ None → Some element ≡ slice_get (range_in store call.first) at
       → item ≡ item_of functions call.transform element → Some item ≡ slice_get (items_in functions store call) at

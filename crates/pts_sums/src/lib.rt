@@ -1,4 +1,6 @@
-//! Sums and scans of a running program.
+//! `reduce`, `transform_reduce` and the four scans, as a program calls them: each reads a view and gives back what it writes.
+//! `terms` says what is summed, `folds` and `groups` fold it by chunks and groups of these, `places` and `sequences` write the
+//! places of scans; `reductions` and `scans` bring them to a program and a view; `laws` ties the answers to the standard.
 #![tactic(auto)]
 
 mod answers;
@@ -14,6 +16,8 @@ mod run;
 mod scans;
 mod sequences;
 mod terms;
+#[cfg(test)]
+mod tests;
 
 pub use answers::{Outcome, ScanAnswer, SumAnswer};
 pub use laws::{places_are_those_of_the_standard, sums_are_those_of_the_standard};

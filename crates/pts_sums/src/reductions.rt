@@ -54,7 +54,7 @@ impl<V: View> Terms for ReductionTerms<'_, V> {
         self.count
     }
 
-    #[tactic(auto, using(crate::proofs::Items::within_one, crate::proofs::Items::within_pair, crate::proofs::Items::one_item, crate::proofs::Items::two_item))]
+    #[tactic(auto, using(crate::proofs::Items::within_one, crate::proofs::Items::within_first, crate::proofs::Items::within_second, crate::proofs::Items::one_item, crate::proofs::Items::two_item))]
     fn item(&self, at: u32) -> Option<Value> {
         match self.call.second {
             None => {
@@ -109,7 +109,7 @@ fn outcome_for(sum: Option<Value>) -> Outcome
 }
 
 // The reduction of this number, if the call is one.
-fn find_reduction(program: &Program, call: u32) -> Option<Reduction>
+pub(crate) fn find_reduction(program: &Program, call: u32) -> Option<Reduction>
     ensures { result ≡ reduction_at program.now call }
 {
     match program.lowered_calls().get(call as usize) {

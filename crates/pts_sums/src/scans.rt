@@ -81,7 +81,7 @@ fn answer_with(written: Option<Writes>) -> ScanAnswer
 }
 
 // The scan of this number, if the call is one.
-fn find_scan(program: &Program, call: u32) -> Option<Scan>
+pub(crate) fn find_scan(program: &Program, call: u32) -> Option<Scan>
     ensures { result ≡ scan_at program.now call }
 {
     match program.lowered_calls().get(call as usize) {
@@ -136,15 +136,7 @@ impl<V: View, G: Gate> Run<'_, V, G> {
             target: call.target,
             count: count_positions(self.program, call.source, call.target),
         };
-        let size = self.pool.chunk;
-        let written = sequence.write_in_turn(
-            alloc,
-            self.view,
-            self.gate,
-            self.call,
-            size,
-            call.initial,
-        )?;
+        let written = sequence.write_in_turn(alloc, self, call.initial)?;
         Ok(written)
     }
 

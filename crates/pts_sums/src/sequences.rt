@@ -9,6 +9,7 @@ ghost use Rattle.pts_sums.specs.Places.{next_place, turn_place, AreWritten};
 ghost use Rattle.pts_eval.specs.Sums.{elements_in_turn, order_of};
 
 use crate::folds::{Fold, add_item, begin, outcome_of};
+use crate::run::Run;
 use crate::terms::Transforming;
 use pts_boards::{Gate, Passing};
 use pts_lowering::{CellRange, ScanOrder};
@@ -69,25 +70,21 @@ impl<T: Transforming> Sequence<'_, T> {
     pub fn write_in_turn<V: View, G: Gate>(
         &self,
         alloc: Global,
-        view: &V,
-        gate: &G,
-        call: u32,
-        size: u32,
+        run: &Run<'_, V, G>,
         init: Option<Value>,
     ) -> Result<Option<Writes>, NoMemory>
-        requires positive { 0 < size }
-        requires within { (p : ℕ) → p < self.now.count → self.now.source.low + p < length (cells_in (V.stands view.now) self.now.source.array) }
+        requires within { (p : ℕ) → p < self.now.count → self.now.source.low + p < length (cells_in (V.stands run.now.view.now) self.now.source.array) }
         requires room { self.now.target.low + self.now.count < 2 ^ 32 }
         requires indices { self.now.source.low + self.now.count < 2 ^ 32 }
         ensures { IfOk result (λ written.
             let place = turn_place (order_of self.now.order) (T.op self.now.operations.now) (T.item self.now.operations.now) init in
-            let elements = elements_in_turn place (V.stands view.now) self.now.source self.now.target self.now.count in
+            let elements = elements_in_turn place (V.stands run.now.view.now) self.now.source self.now.target self.now.count in
             AreWritten (all_given (map (place elements) (range_with_len 0 self.now.count))) self.now.target.array self.now.target.low written) }
     {
-        let mut layer = view.layer(alloc);
+        let mut layer = run.view.layer(alloc);
         let mut so_far = begin(init);
         for at in 0..self.count {
-            pass_chunk(gate, call, size, at);
+            pass_chunk(run, at);
             let element = layer.cell(self.source.array, self.source.low + at);
             let turn = self.turn(so_far, element, at);
             let Some(value) = turn.place else {
@@ -101,12 +98,11 @@ impl<T: Transforming> Sequence<'_, T> {
 }
 
 // Passes a chunk before its first position.
-fn pass_chunk<G: Gate>(gate: &G, call: u32, size: u32, at: u32)
-    requires { 0 < size }
-{
+fn pass_chunk<V, G: Gate>(run: &Run<'_, V, G>, at: u32) {
+    let size = run.pool.chunk;
     if at % size == 0 {
-        gate.pass(Passing::Chunk {
-            call,
+        run.gate.pass(Passing::Chunk {
+            call: run.call,
             chunk: at / size,
         });
     }

@@ -11,7 +11,7 @@ abbrev pub invariant-loop-at : goal.invariant-loop-at
 invariant-loop-at g l =
     let op = g.T.Combining.op l.self.operations.now in
     let item = g.T.Transforming.item l.self.operations.now in
-    let store = g.V.View.stands l.view in
+    let store = g.V.View.stands l.run.view.now in
     let read = elements (order_of l.self.order) op item l.fn.init store l.self.source l.self.target in
     let places = first_places (order_of l.self.order) op item l.fn.init store l.self.source l.self.target in
     record {
