@@ -39,7 +39,7 @@ struct Sample {
 }
 
 #[tactic(auto, using(crate::proofs::RangeCells::same_shape))]
-fn sample(alloc: Global) -> Result<Sample, Fail>
+fn make_sample(alloc: Global) -> Result<Sample, Fail>
     ensures { IfOk result (λ sample. SameShape (start_store sample.program) sample.store) }
 {
     let text = format!(in alloc; "pts 1; {ARRAYS}{FUNCTIONS}{SUMS}{SCANS}")?;
@@ -118,7 +118,7 @@ fn are_written(written: Option<Writes>, array: u32, first: u32, values: [u64; 3]
 
 #[test]
 fn sums_are_those_of_their_ranges(rt: HostRuntime) -> Result<(), Fail> {
-    let sample = sample(rt.alloc())?;
+    let sample = make_sample(rt.alloc())?;
     let six = Outcome::Value(Value::U64(6));
     assert_eq!(rt; summed(&rt, rt.alloc(), &sample, 0, 0, 0)?, (six, None));
     assert_eq!(rt; summed(&rt, rt.alloc(), &sample, 1, 0, 0)?, (Outcome::Terminated, None));
@@ -129,7 +129,7 @@ fn sums_are_those_of_their_ranges(rt: HostRuntime) -> Result<(), Fail> {
 
 #[test]
 fn scans_write_their_places(rt: HostRuntime) -> Result<(), Fail> {
-    let sample = sample(rt.alloc())?;
+    let sample = make_sample(rt.alloc())?;
     assert!(rt; are_written(scanned(&rt, rt.alloc(), &sample, 3)?, 1, 0, [1, 3, 6]));
     assert!(rt; are_written(scanned(&rt, rt.alloc(), &sample, 4)?, 1, 0, [1, 2, 8]));
     assert!(rt; are_written(scanned(&rt, rt.alloc(), &sample, 5)?, 2, 1, [1, 2, 4]));
