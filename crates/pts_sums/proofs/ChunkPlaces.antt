@@ -1,14 +1,12 @@
 -- The places of a chunk, by the fold that comes to it.
-use Rattle.std.proofs.Common.{◌≡◌, ℕ, zero, suc, ◌+◌, ◌-◌, ◌*◌, ◌/◌, ◌%◌, ◌<◌, ◌≤◌, min, Option, Some, None, List, [], ◌∷◌, ◌++◌, length, map, take, drop, refl, sym, ap, subst, ◌∙◌, arith}
-use Rattle.std.specs.List.{cons_option, flat_map, fold, range_with_len}
+use Rattle.std.proofs.Common.{◌≡◌, ℕ, zero, suc, ◌+◌, ◌-◌, ◌*◌, ◌/◌, ◌<◌, min, Option, Some, None, List, [], ◌∷◌, ◌++◌, length, map, take, drop, refl, sym, ap, ◌∙◌, arith}
+use Rattle.std.specs.List.{cons_option, range_with_len}
 use Rattle.std.specs.Option.{option_map}
 use Rattle.std.proofs.lemmas.Grind.{fold-append}
 use Rattle.std.proofs.lemmas.List.{length-drop, length-take, map-append}
-use Rattle.std.proofs.lemmas.List.FromFn.{length-map-range_with_len}
 use Rattle.std.proofs.lemmas.Nat.{div-mul-add, mod-mul-add}
 use Rattle.pts_types.specs.declared.operation.Policy.TheVariants.{Par}
-use Rattle.pts_groupings.specs.Brackets.{combined}
-use Rattle.pts_groupings.specs.Chunks.{chunk, chunk_count}
+use Rattle.pts_groupings.specs.Chunks.{chunk}
 use Rattle.pts_groupings.specs.Scans.{Scan, Inclusive, Exclusive, reach, place}
 use Rattle.pts_groupings.specs.Sums.{all_given, folded}
 use Rattle.pts_groupings.proofs.Places.{map-range_same}

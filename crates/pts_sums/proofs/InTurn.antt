@@ -1,25 +1,24 @@
 -- Scans in index order, one position after another.
-use Rattle.std.proofs.Common.{◌≡◌, ℕ, zero, suc, ◌+◌, ◌-◌, ◌<◌, ◌≤◌, min, Bool, true, false, Option, Some, None, List, [], ◌∷◌, ◌++◌, length, get_or, map, take, drop, refl, sym, ap, subst, ◌∙◌, append_assoc, arith, length-append}
-use Rattle.std.specs.List.{cons_option, range_with_len, slice_get, slice_set, Contains}
+use Rattle.std.proofs.Common.{◌≡◌, ℕ, zero, suc, ◌+◌, ◌-◌, ◌<◌, ◌≤◌, Bool, true, false, Option, Some, None, List, [], ◌∷◌, ◌++◌, length, map, take, refl, sym, ap, subst, ◌∙◌, append_assoc, arith, length-append}
+use Rattle.std.specs.List.{cons_option, range_with_len, slice_get}
 use Rattle.std.specs.Option.{option_map, option_to_list}
 use Rattle.std.proofs.lemmas.Grind.{fold-append}
 use Rattle.std.proofs.lemmas.List.{append-nil, length-map, map-append, take_all, take-append-le}
 use Rattle.std.proofs.lemmas.List.FromFn.{get_or-map-range_with_len, length-map-range_with_len}
-use Rattle.pts_types.specs.declared.operation.Policy.TheVariants.{Seq}
 use Rattle.pts_types.specs.declared.value.Value.{Value}
 use Rattle.pts_store.specs.Laws.{SameShape}
 use Rattle.pts_store.specs.Stores.{Store, cells_in, put_cell}
-use Rattle.pts_store.specs.Steps.{Step, AreOf}
+use Rattle.pts_store.specs.Steps.{AreOf}
 use Rattle.pts_store.specs.Writes.{Writes, PutsCell}
 use Rattle.pts_store.proofs.Kept.{putting_keeps_shape}
 use Rattle.pts_store.proofs.Together.{no_steps}
-use Rattle.pts_groupings.specs.Scans.{Scan, Inclusive, Exclusive, reach, place}
+use Rattle.pts_groupings.specs.Scans.{Scan, Inclusive, Exclusive, reach}
 use Rattle.pts_groupings.specs.Sums.{all_given, folded}
 use Rattle.pts_groupings.proofs.Places.{map-range_same}
 use Rattle.pts_groupings.proofs.Throws.{given_none}
 use Rattle.pts_sums.specs.Folds.{with_item, with_items, outcome_in}
 use Rattle.pts_sums.specs.Places.{next_place, turn_place, Puts, AreWritten}
-use Rattle.pts_eval.specs.Sums.{elements_in_turn, steps_from, with_places}
+use Rattle.pts_eval.specs.Sums.{elements_in_turn, with_places}
 use Rattle.pts_lowering.specs.declared.forms.CellRange.{CellRange}
 use Rattle.pts_sums.proofs.ChunkPlaces.{started}
 use Rattle.pts_sums.proofs.PutPlaces.{put_both, put_first, put_none}

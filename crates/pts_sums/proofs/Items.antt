@@ -1,15 +1,15 @@
 -- The items of reductions and scans, by their positions.
-use Rattle.std.proofs.Common.{◌≡◌, ℕ, zero, suc, ◌+◌, ◌-◌, ◌<◌, ◌≤◌, min, Option, Some, None, List, [], ◌∷◌, length, map, take, refl, sym, ap, subst, ◌∙◌, arith}
+use Rattle.std.proofs.Common.{◌≡◌, ℕ, zero, suc, ◌<◌, min, Option, Some, None, List, [], ◌∷◌, length, map, sym, ap, subst, ◌∙◌, arith}
 use Rattle.std.specs.List.{slice_get}
 use Rattle.std.specs.Option.{option_map}
-use Rattle.std.proofs.lemmas.List.{length-map, length-take}
+use Rattle.std.proofs.lemmas.List.{length-map}
 use Rattle.std.proofs.lemmas.Option.{slice_get-map}
 use Rattle.pts_types.specs.declared.value.Value.{Value}
 use Rattle.pts_code.specs.declared.function.FunctionInfo.{FunctionInfo}
 use Rattle.pts_lowering.specs.declared.forms.CellIndex.{CellIndex}
 use Rattle.pts_lowering.specs.declared.forms.CellRange.{CellRange}
 use Rattle.pts_lowering.specs.declared.forms.Reduction.{Reduction}
-use Rattle.pts_store.specs.Steps.{Step, AreOf}
+use Rattle.pts_store.specs.Steps.{AreOf}
 use Rattle.pts_store.specs.Stores.{Store}
 use Rattle.pts_store.specs.Writes.{Writes, PutsCell}
 use Rattle.pts_store.proofs.Together.{no_steps, one_step_more}

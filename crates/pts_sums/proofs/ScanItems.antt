@@ -1,5 +1,5 @@
 -- The items of scans, and their places under each policy.
-use Rattle.std.proofs.Common.{◌≡◌, ℕ, zero, suc, ◌+◌, ◌-◌, ◌<◌, ◌≤◌, ◌^◌, min, Bool, true, false, Option, Some, None, List, [], ◌∷◌, ◌++◌, length, map, take, refl, sym, ap, subst, ◌∙◌, arith}
+use Rattle.std.proofs.Common.{◌≡◌, ℕ, ◌+◌, ◌<◌, Bool, true, false, Option, Some, None, List, [], length, map, take, refl, sym, ap, subst, ◌∙◌, arith}
 use Rattle.std.specs.List.{range_with_len, slice_get}
 use Rattle.std.specs.Option.{option_map}
 use Rattle.std.proofs.lemmas.List.{length-map, length-take}
@@ -8,10 +8,9 @@ use Rattle.pts_types.specs.declared.operation.Policy.{Policy}
 use Rattle.pts_types.specs.declared.operation.Policy.TheVariants as policies
 use Rattle.pts_types.specs.declared.value.Value.{Value}
 use Rattle.pts_code.specs.declared.function.FunctionInfo.{FunctionInfo}
-use Rattle.pts_lowering.specs.declared.forms.CellRange.{CellRange}
 use Rattle.pts_lowering.specs.declared.forms.Scan.{Scan}
 use Rattle.pts_store.specs.Stores.{Store, cells_in}
-use Rattle.pts_groupings.specs.Scans.{place, places_of}
+use Rattle.pts_groupings.specs.Scans.{places_of}
 use Rattle.pts_groupings.specs.Sums.{all_given}
 use Rattle.pts_eval.specs.Runs.{range_in}
 use Rattle.pts_eval.specs.Sums.{combining, elements_by, elements_in_turn, item_of, order_of, positions_in, scanned}

@@ -9,8 +9,9 @@ use crate::scans::find_scan;
 use crate::{Outcome, ScanAnswer, reduce, scan, transform_reduce};
 use pts_boards::{NoGate, Pool};
 use pts_eval::start_store;
+use pts_lowering::CellIndex;
 use pts_program::{Program, build};
-use pts_store::{Store, Writes};
+use pts_store::Store;
 use pts_syntax::parse;
 use pts_types::Value;
 use std::alloc::Global;
@@ -28,8 +29,7 @@ const SUMS: &str = "reduce seq a[0..3] init 0 plus; reduce par a[0..3] init 1 be
 
 const SCANS: &str = "inclusive_scan par a[0..3] -> b[0..3] plus; \
     transform_exclusive_scan seq a[0..3] -> b[0..3] init 1 multiplies dbl; \
-    inclusive_scan seq c[0..3] -> c[1..4] plus; \
-    inclusive_scan seq a[0..3] -> b[0..3] below;";
+    inclusive_scan seq c[0..3] -> c[1..4] plus;";
 
 #[derive(Drop)]
 struct Sample {
@@ -54,85 +54,119 @@ fn make_sample(alloc: Global) -> Result<Sample, Fail>
     })
 }
 
-// The sum that a call of this number answers, and what it writes to this cell; None where the call is no sum.
-fn summed<R: Threads + Sync>(
+// The sum that the `reduce` of this number answers.
+fn sum<R: Threads + Sync>(
     rt: &R,
     alloc: Global,
     sample: &Sample,
     call: u32,
-    array: u32,
-    index: u32,
-) -> Result<(Outcome, Option<Value>), Fail>
+) -> Result<Outcome, Fail>
     requires { SameShape (start_store sample.now.program) sample.now.store }
 {
-    let Sample {
-        program,
-        store,
-        pool,
-    } = sample;
-    let Some(x) = find_reduction(program, call) else {
+    let Some(x) = find_reduction(&sample.program, call) else {
         return Err("no sum".into());
     };
-    let answer = if x.second.is_none() && x.transform.is_none() {
-        reduce(rt, alloc, &NoGate, *pool, program, call, store)
-    } else {
-        transform_reduce(rt, alloc, &NoGate, *pool, program, call, store)
-    };
-    let answer = answer.ok().ok_or("no memory")?;
-    Ok((answer.outcome, answer.writes.get(array, index)))
+    if x.second.is_some() || x.transform.is_some() {
+        return Err("no reduce".into());
+    }
+    let (pool, program, store) = (sample.pool, &sample.program, &sample.store);
+    match reduce(rt, alloc, &NoGate, pool, program, call, store) {
+        Ok(answer) => Ok(answer.outcome),
+        Err(_) => Err("no memory".into()),
+    }
 }
 
-// What a scan of this number writes; None where it throws.
-fn scanned<R: Threads + Sync>(
+// What the `transform_reduce` of two ranges of this number writes to a cell.
+fn product_sum<R: Threads + Sync>(
     rt: &R,
     alloc: Global,
     sample: &Sample,
     call: u32,
-) -> Result<Option<Writes>, Fail>
+) -> Result<Option<Value>, Fail>
     requires { SameShape (start_store sample.now.program) sample.now.store }
 {
-    let Sample {
-        program,
-        store,
-        pool,
-    } = sample;
-    if find_scan(program, call).is_none() {
-        return Err("no scan".into());
+    let Some(x) = find_reduction(&sample.program, call) else {
+        return Err("no sum".into());
+    };
+    if x.second.is_none() {
+        return Err("one range".into());
     }
-    let answer = scan(rt, alloc, &NoGate, *pool, program, call, store);
-    match answer.ok().ok_or("no memory")? {
-        ScanAnswer::Written(writes) => Ok(Some(writes)),
-        ScanAnswer::Terminated => Ok(None),
+    let (pool, program, store) = (sample.pool, &sample.program, &sample.store);
+    match transform_reduce(rt, alloc, &NoGate, pool, program, call, store) {
+        Ok(answer) => Ok(answer.writes.get(2, 1)),
+        Err(_) => Err("no memory".into()),
     }
 }
 
-// Whether three cells of an array from this one on get these values.
-fn are_written(written: Option<Writes>, array: u32, first: u32, values: [u64; 3]) -> bool {
-    let Some(writes) = written else {
-        return false;
-    };
-    writes.get(array, first) == Some(Value::U64(values[0]))
-        && writes.get(array, first + 1) == Some(Value::U64(values[1]))
-        && writes.get(array, first + 2) == Some(Value::U64(values[2]))
+// What the scan of this number writes to a cell.
+fn place<R: Threads + Sync>(
+    rt: &R,
+    alloc: Global,
+    sample: &Sample,
+    call: u32,
+    cell: CellIndex,
+) -> Result<Option<Value>, Fail>
+    requires { SameShape (start_store sample.now.program) sample.now.store }
+{
+    if find_scan(&sample.program, call).is_none() {
+        return Err("no scan".into());
+    }
+    let (pool, program, store) = (sample.pool, &sample.program, &sample.store);
+    match scan(rt, alloc, &NoGate, pool, program, call, store) {
+        Ok(ScanAnswer::Written(writes)) => Ok(writes.get(cell.array, cell.index)),
+        Ok(ScanAnswer::Terminated) => Ok(None),
+        Err(_) => Err("no memory".into()),
+    }
 }
 
 #[test]
-fn sums_are_those_of_their_ranges(rt: HostRuntime) -> Result<(), Fail> {
+fn a_sum_of_a_range(rt: HostRuntime) -> Result<(), Fail> {
     let sample = make_sample(rt.alloc())?;
-    let six = Outcome::Value(Value::U64(6));
-    assert_eq!(rt; summed(&rt, rt.alloc(), &sample, 0, 0, 0)?, (six, None));
-    assert_eq!(rt; summed(&rt, rt.alloc(), &sample, 1, 0, 0)?, (Outcome::Terminated, None));
-    let products = Value::U64(32);
-    assert_eq!(rt; summed(&rt, rt.alloc(), &sample, 2, 2, 1)?, (Outcome::Value(products), Some(products)));
+    let outcome = sum(&rt, rt.alloc(), &sample, 0)?;
+    assert!(rt; outcome == Outcome::Value(Value::U64(6)));
     Ok(())
 }
 
 #[test]
-fn scans_write_their_places(rt: HostRuntime) -> Result<(), Fail> {
+fn a_sum_that_throws(rt: HostRuntime) -> Result<(), Fail> {
     let sample = make_sample(rt.alloc())?;
-    assert!(rt; are_written(scanned(&rt, rt.alloc(), &sample, 3)?, 1, 0, [1, 3, 6]));
-    assert!(rt; are_written(scanned(&rt, rt.alloc(), &sample, 4)?, 1, 0, [1, 2, 8]));
-    assert!(rt; are_written(scanned(&rt, rt.alloc(), &sample, 5)?, 2, 1, [1, 2, 4]));
-    assert!(rt; scanned(&rt, rt.alloc(), &sample, 6)?.is_none());
+    let outcome = sum(&rt, rt.alloc(), &sample, 1)?;
+    assert!(rt; outcome == Outcome::Terminated);
+    Ok(())
+}
+
+#[test]
+fn a_sum_of_products(rt: HostRuntime) -> Result<(), Fail> {
+    let sample = make_sample(rt.alloc())?;
+    let value = product_sum(&rt, rt.alloc(), &sample, 2)?;
+    assert!(rt; value == Some(Value::U64(32)));
+    Ok(())
+}
+
+#[test]
+fn a_place_by_chunks(rt: HostRuntime) -> Result<(), Fail> {
+    let sample = make_sample(rt.alloc())?;
+    let value = place(
+        &rt,
+        rt.alloc(),
+        &sample,
+        3,
+        CellIndex { array: 1, index: 2 },
+    )?;
+    assert!(rt; value == Some(Value::U64(6)));
+    Ok(())
+}
+
+#[test]
+fn a_place_in_index_order(rt: HostRuntime) -> Result<(), Fail> {
+    let sample = make_sample(rt.alloc())?;
+    let value = place(
+        &rt,
+        rt.alloc(),
+        &sample,
+        5,
+        CellIndex { array: 2, index: 3 },
+    )?;
+    assert!(rt; value == Some(Value::U64(4)));
     Ok(())
 }

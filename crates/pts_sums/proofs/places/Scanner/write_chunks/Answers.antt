@@ -1,4 +1,4 @@
-use Rattle.std.proofs.Common.{◌≡◌, ℕ, ◌+◌, ◌*◌, ◌<◌, ◌≤◌, length, false, true, ◌∙◌, ap, sym}
+use Rattle.std.proofs.Common.{◌≡◌, ◌<◌, ◌≤◌, length, false, true, ◌∙◌, ap, sym}
 use Rattle.pts_groupings.specs.Chunks.{chunk, chunk_count}
 use Rattle.pts_groupings.specs.Sums.{folded}
 use Rattle.pts_sums.specs.Folds.{with_item}

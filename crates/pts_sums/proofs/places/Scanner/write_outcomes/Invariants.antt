@@ -1,4 +1,4 @@
-use Rattle.std.proofs.Common.{◌≡◌, ◌+◌, ◌-◌, Bool, take, drop}
+use Rattle.std.proofs.Common.{◌+◌, ◌-◌, Bool, take, drop}
 use Rattle.pts_store.specs.Writes.{Writes}
 use Rattle.pts_groupings.specs.Sums.{all_given}
 use Rattle.pts_sums.specs.Places.{outcomes_after, Puts}

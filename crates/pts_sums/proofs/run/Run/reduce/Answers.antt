@@ -1,4 +1,4 @@
-use Rattle.std.proofs.Common.{◌≡◌, ◌≤◌, length, ap, sym, subst, ◌∙◌, rules, arith}
+use Rattle.std.proofs.Common.{◌≡◌, ◌≤◌, length, ap, sym, subst, ◌∙◌, rules}
 use Rattle.pts_groupings.specs.Chunks.{chunk_count, single_group}
 use Rattle.pts_groupings.specs.Sums.{sum_of}
 use Rattle.pts_store.specs.Steps.{AreOf}

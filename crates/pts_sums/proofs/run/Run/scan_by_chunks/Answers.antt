@@ -1,4 +1,4 @@
-use Rattle.std.proofs.Common.{◌≡◌, arith}
+use Rattle.std.proofs.Common.{arith}
 use Rattle.pts_sums.proofs.ScanItems.{chunks_thrown, chunks_written, positions}
 use Rattle.pts_sums.proofs.run.Run.scan_by_chunks.Goals as goal
 

@@ -1,11 +1,10 @@
-use Rattle.std.proofs.Common.{◌≡◌, ℕ, ◌+◌, ◌<◌, ◌≤◌, ap, refl, sym, subst, ◌∙◌, true, [], Some, length, map, arith}
-use Rattle.std.specs.List.{range_with_len}
+use Rattle.std.proofs.Common.{◌≡◌, ◌+◌, ap, refl, sym, subst, ◌∙◌, true, [], length, arith}
 use Rattle.pts_store.specs.Stores.{cells_in}
 use Rattle.pts_groupings.specs.Sums.{all_given}
 use Rattle.pts_sums.specs.Folds.{with_item}
-use Rattle.pts_sums.specs.Places.{next_place, AreWritten, Puts}
+use Rattle.pts_sums.specs.Places.{next_place, Puts}
 use Rattle.pts_eval.specs.Sums.{order_of}
-use Rattle.pts_sums.proofs.InTurn.{all_written, elements, first_places, fold_of, length-put, next_count, next_fold, next_stands, next_written, none_written, thrown}
+use Rattle.pts_sums.proofs.InTurn.{all_written, first_places, length-put, next_count, next_fold, next_stands, next_written, none_written, thrown}
 use Rattle.pts_sums.proofs.PutPlaces.{put_none}
 use Rattle.pts_sums.proofs.sequences.Sequence.write_in_turn.Goals as goal
 

@@ -1,4 +1,4 @@
-use Rattle.std.proofs.Common.{◌≡◌, ℕ, ◌<◌, true, [], length}
+use Rattle.std.proofs.Common.{◌≡◌, ◌<◌, true, [], length}
 use Rattle.pts_store.specs.Stores.{cells_in}
 use Rattle.pts_groupings.specs.Sums.{all_given}
 use Rattle.pts_sums.specs.Places.{Puts}
