@@ -52,6 +52,3 @@ element store range at index value l e is =
     let len = length-range store range in
     is ∙ ap (slice_get (cells_in store range.array)) e ∙ sym (get-drop range.low at (cells_in store range.array))
     ∙ sym (get-take (range.high - range.low) at (drop range.low (cells_in store range.array)) (omega (arith, l, len)))
-
-pub same_shape : (old new : Store) → new ≡ old → SameShape old new
-same_shape old new e = record { arrays = ap length e; cells = λ array. ap (λ store. length (cells_in store array)) e }

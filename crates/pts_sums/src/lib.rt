@@ -16,8 +16,6 @@ mod run;
 mod scans;
 mod sequences;
 mod terms;
-#[cfg(test)]
-mod tests;
 
 pub use answers::{Outcome, ScanAnswer, SumAnswer};
 pub use laws::{places_are_those_of_the_standard, sums_are_those_of_the_standard};

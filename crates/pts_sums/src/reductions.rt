@@ -109,7 +109,7 @@ fn outcome_for(sum: Option<Value>) -> Outcome
 }
 
 // The reduction of this number, if the call is one.
-pub(crate) fn find_reduction(program: &Program, call: u32) -> Option<Reduction>
+fn find_reduction(program: &Program, call: u32) -> Option<Reduction>
     ensures { result ≡ reduction_at program.now call }
 {
     match program.lowered_calls().get(call as usize) {

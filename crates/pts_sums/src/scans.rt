@@ -81,7 +81,7 @@ fn answer_with(written: Option<Writes>) -> ScanAnswer
 }
 
 // The scan of this number, if the call is one.
-pub(crate) fn find_scan(program: &Program, call: u32) -> Option<Scan>
+fn find_scan(program: &Program, call: u32) -> Option<Scan>
     ensures { result ≡ scan_at program.now call }
 {
     match program.lowered_calls().get(call as usize) {
