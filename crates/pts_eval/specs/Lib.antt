@@ -1,3 +1,4 @@
 pub mod Expressions
 pub mod Runs
+pub mod Sums
 pub mod Works

@@ -1,0 +1,14 @@
+//! A call as it runs.
+
+use pts_boards::Pool;
+use pts_program::Program;
+
+/// A call of a program by its number, the cells that it reads, the pool that cuts it into chunks, and the gate that these pass.
+#[derive(Drop)]
+pub(crate) struct Run<'a, V, G> {
+    pub program: &'a Program,
+    pub call: u32,
+    pub view: &'a V,
+    pub pool: Pool,
+    pub gate: &'a G,
+}
