@@ -6,7 +6,7 @@ mod Forking
 mod Halving
 mod LeastConflicts
 mod Meetings
-mod OneConflict
+pub mod OneConflict
 mod Opposites
 mod PartPairs
 mod ProgramLaws

@@ -37,8 +37,8 @@ program_of bytes script reads sound = record { script = script; sound = sound; s
 
 same_conflict : (bytes : List ℕ) (script : Script) (x y : Conflict) → Reads bytes script → HasConflict script x → HasConflict script y → x ≡ y
 same_conflict bytes script x y reads h g =
-    let pair = one_conflict (lists_of script) (program_of bytes script reads h.sound) x.pair y.pair h.conflict.least g.conflict.least in
-    let name = h.conflict.name ∙ ap (λ z. array_name script z.array) pair ∙ sym g.conflict.name in
+    let pair = one_conflict (lists_of script) (program_of bytes script reads h.sound) x.pair y.pair h.named.least g.named.least in
+    let name = h.named.name ∙ ap (λ z. array_name script z.array) pair ∙ sym g.named.name in
     λ i. record { array = name i; pair = pair i }
 
 same_cause : (bytes : List ℕ) (script : Script) (reason other : Refusal) → Reads bytes script → Rejects script reason → Rejects script other → reason ≡ other
@@ -81,7 +81,7 @@ same_run_cause bytes script (refusals.Conflict x) (refusals.Syntax another) read
 -- a script that is accepted is not rejected
 not_both : (script : Script) (lists : Lists) (reason : Refusal) → IsAccepted script lists → ¬ Rejects script reason
 not_both script lists (refusals.Build fault) a h = fault-or_sound script h.0 fault h.1 a.sound
-not_both script lists (refusals.Conflict x) a h = none_least (lists_of script) x.pair (subst IsClear a.made a.clear) h.conflict.least
+not_both script lists (refusals.Conflict x) a h = none_least (lists_of script) x.pair (subst IsClear a.made a.clear) h.named.least
 not_both script lists (refusals.Later item) a h = h
 not_both script lists refusals.TooLong a h = h
 not_both script lists (refusals.Syntax fault) a h = h
@@ -89,7 +89,7 @@ not_both script lists (refusals.Syntax fault) a h = h
 -- and one that is run is not refused
 not_both_run : (script : Script) (lists : Lists) (reason : Refusal) → IsRunnable script lists → ¬ RejectsRun script reason
 not_both_run script lists (refusals.Build fault) a h = fault-or_sound script h.0 fault h.1 a.accepted.sound
-not_both_run script lists (refusals.Conflict x) a h = none_least (lists_of script) x.pair (subst IsClear a.accepted.made a.accepted.clear) h.0.conflict.least
+not_both_run script lists (refusals.Conflict x) a h = none_least (lists_of script) x.pair (subst IsClear a.accepted.made a.accepted.clear) h.0.named.least
 not_both_run script lists (refusals.Later item) a l = built_or_later script item (sym (ap first_later a.accepted.made) ∙ a.built) l
 not_both_run script lists refusals.TooLong a h = h
 not_both_run script lists (refusals.Syntax fault) a h = h

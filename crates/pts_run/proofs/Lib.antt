@@ -1,3 +1,5 @@
+mod Acceptances
+mod ArrayNames
 pub mod Clips
 pub mod CommandLines
 pub mod Endings

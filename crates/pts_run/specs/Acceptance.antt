@@ -60,7 +60,7 @@ IsConflictOf script lists reason = ⊥
 -- the script breaks no rule, and this is its least conflict
 pub record HasConflict (script : Script) (conflict : Conflict) : Type 0 where
   pub sound : IsSound script
-  pub conflict : IsNamedConflict script (lists_of script) conflict
+  pub named : IsNamedConflict script (lists_of script) conflict
 
 -- the script is not accepted for this reason
 abbrev pub Rejects : Script → Refusal → Type 0

@@ -1,6 +1,7 @@
 -- The printed texts: the line of each answer, of a script that is accepted, and of a refusal.
 use Rattle.std.specs.Prelude.{ℕ, ◌+◌, true, false, Option, Some, None, List, [], ◌∷◌, ◌++◌, codes, decimal}
 use Rattle.std.specs.List.{flat_map}
+use Rattle.pts_run.specs.declared.refusal.Conflict.{Conflict}
 use Rattle.pts_run.specs.declared.refusal.Refusal.{Refusal}
 use Rattle.pts_run.specs.declared.refusal.Refusal.TheVariants as refusals
 use Rattle.std.specs.Fmt.{signed_decimal}
@@ -48,12 +49,16 @@ at_position None = []
 at_position (Some position) = codes " position " ++ decimal position
 
 -- the cell of an array
-abbrev pub cell_text : List ℕ → ℕ → List ℕ
+unfoldable pub cell_text : List ℕ → ℕ → List ℕ
 cell_text array index = codes " cell " ++ array ++ codes "[" ++ decimal index ++ codes "]"
 
 -- an evaluation: its position and its point
-abbrev pub evaluation : ℕ → ℕ → List ℕ
+unfoldable pub evaluation : ℕ → ℕ → List ℕ
 evaluation position point = codes " position " ++ decimal position ++ codes " point " ++ decimal point
+
+-- the cell of a conflict, and its evaluations
+unfoldable pub place_text : Conflict → List ℕ
+place_text x = cell_text x.array x.pair.cell ++ evaluation x.pair.p x.pair.k ++ evaluation x.pair.q x.pair.m ++ line_feed
 
 -- the line of a refusal
 abbrev pub refusal_line : Refusal → List ℕ
@@ -61,6 +66,4 @@ refusal_line refusals.TooLong = codes "refused too_long" ++ line_feed
 refusal_line (refusals.Syntax fault) = codes "refused " ++ kind_name fault.kind ++ codes " at " ++ decimal fault.at ++ line_feed
 refusal_line (refusals.Build fault) = codes "refused " ++ rule_name fault ++ codes " item " ++ decimal (item_of fault) ++ at_position (position_of fault) ++ line_feed
 refusal_line (refusals.Later item) = codes "refused later item " ++ decimal item ++ line_feed
-refusal_line (refusals.Conflict x) =
-    codes "refused conflict item " ++ decimal x.pair.item ++ cell_text x.array x.pair.cell
-    ++ evaluation x.pair.p x.pair.k ++ evaluation x.pair.q x.pair.m ++ line_feed
+refusal_line (refusals.Conflict x) = codes "refused conflict item " ++ decimal x.pair.item ++ place_text x

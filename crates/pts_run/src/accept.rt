@@ -1,7 +1,10 @@
 //! Which scripts are run: those that break no rule and have no conflict, and whose statements are all built.
 
-ghost use Rattle.std.specs.Prelude.{◌≡◌, Err, IfOk};
+ghost use Rattle.std.specs.Prelude.{◌≡◌, Err, IfOk, None};
 ghost use Rattle.pts_syntax.specs.Syntax.{IsSpelled};
+ghost use Rattle.pts_program.specs.Faults.{IsSound};
+ghost use Rattle.pts_program.specs.Lists.{lists_of};
+ghost use Rattle.pts_eval.specs.Works.{first_later};
 ghost use Rattle.pts_run.specs.declared.refusal.Refusal.{Refusal as Reason};
 ghost use Rattle.pts_conflict.specs.Conflicts.{IsClear};
 ghost use Rattle.pts_run.specs.Acceptance as spec;
@@ -46,6 +49,7 @@ impl From<AllocError> for Rejection {
 }
 
 // The name in the declaration of the array with this number; empty where there is no such array.
+#[tactic(auto, using(crate::proofs::ArrayNames::turns))]
 fn array_name(script: &Script, number: u32) -> &str
     ensures { result.now ≡ spec.array_name script.now number }
 {
@@ -86,6 +90,17 @@ fn clear_program(alloc: Global, script: &Script, program: Program) -> Result<Cle
     }
 }
 
+// The same of the program that a script makes which breaks no rule.
+fn accept_program(alloc: Global, script: &Script, program: Program) -> Result<Cleared, Rejection>
+    requires sound { IsSound script.now }
+    requires made { program ≡ lists_of script.now }
+    ensures accepted { IfOk result (spec.IsAccepted script.now) }
+    ensures rejected { (reason : Reason) → result ≡ Err (Rejection.Refused reason) → spec.Rejects script.now reason }
+    ensures not_run { (reason : Reason) → result ≡ Err (Rejection.Refused reason) → first_later program ≡ None → spec.RejectsRun script.now reason }
+{
+    clear_program(alloc, script, program)
+}
+
 /// The program of a script that breaks no rule and has no conflict, or why there is none.
 pub fn accept(alloc: Global, script: &Script) -> Result<Cleared, Rejection>
     requires { IsSpelled script.now }
@@ -93,7 +108,7 @@ pub fn accept(alloc: Global, script: &Script) -> Result<Cleared, Rejection>
     ensures rejected { (reason : Reason) → result ≡ Err (Rejection.Refused reason) → spec.Rejects script.now reason }
 {
     let program = build(alloc, script)?;
-    clear_program(alloc, script, program)
+    accept_program(alloc, script, program)
 }
 
 /// The same of a script that is run, all of whose statements are built, or why it is not run.
@@ -105,6 +120,6 @@ pub fn accept_to_run(alloc: Global, script: &Script) -> Result<Cleared, Rejectio
     let program = build(alloc, script)?;
     match later(&program) {
         Some(item) => Err(Rejection::Refused(Refusal::Later(item))),
-        None => clear_program(alloc, script, program),
+        None => accept_program(alloc, script, program),
     }
 }

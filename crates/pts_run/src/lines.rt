@@ -3,7 +3,7 @@
 ghost use Rattle.std.specs.Prelude.{◌≡◌, ◌++◌, OnOk, decimal};
 ghost use Rattle.pts_eval.specs.Runs.{Reduced, Printed};
 ghost use Rattle.pts_run.specs.declared.refusal.Refusal.TheVariants as refusals;
-ghost use Rattle.pts_run.specs.Text.{at_position, cell_text, evaluation, line_feed, line_of, spaced, value_text, refusal_line};
+ghost use Rattle.pts_run.specs.Text.{at_position, cell_text, evaluation, line_feed, place_text, line_of, spaced, value_text, refusal_line};
 
 use crate::refusal::{Conflict, Refusal};
 use itoa::{Buffer, Integer};
@@ -80,16 +80,25 @@ fn push_build_fault(text: &mut Vec<u8>, fault: BuildFault) -> Result<(), AllocEr
 fn push_conflict(text: &mut Vec<u8>, conflict: &Conflict) -> Result<(), AllocError>
     ensures { OnOk result (text.new.items ≡ text.old.items ++ refusal_line (refusals.Conflict conflict.now)) }
 {
-    let pair = conflict.pair;
     text.extend_from_slice(b"refused conflict item ")?;
-    push_number(text, pair.item)?;
+    push_number(text, conflict.pair.item)?;
+    push_place(text, conflict)?;
+    Ok(())
+}
+
+// The cell and the two evaluations.
+#[tactic(auto, using(std::proofs::lemmas::List::append_assoc), unfolding(crate::specs::Text::place_text))]
+fn push_place(text: &mut Vec<u8>, conflict: &Conflict) -> Result<(), AllocError>
+    ensures { OnOk result (text.new.items ≡ text.old.items ++ place_text conflict.now) }
+{
+    let pair = conflict.pair;
     push_cell(text, conflict.array.as_str(), pair.cell)?;
     push_evaluation(text, pair.p, pair.k)?;
     push_evaluation(text, pair.q, pair.m)?;
     text.extend_from_slice(b"\n")
 }
 
-#[tactic(auto, using(std::proofs::lemmas::List::append_assoc))]
+#[tactic(auto, using(std::proofs::lemmas::List::append_assoc), unfolding(crate::specs::Text::cell_text))]
 fn push_cell(text: &mut Vec<u8>, array: &str, cell: u32) -> Result<(), AllocError>
     ensures { OnOk result (text.new.items ≡ text.old.items ++ cell_text array.now cell) }
 {
@@ -100,7 +109,7 @@ fn push_cell(text: &mut Vec<u8>, array: &str, cell: u32) -> Result<(), AllocErro
     text.extend_from_slice(b"]")
 }
 
-#[tactic(auto, using(std::proofs::lemmas::List::append_assoc))]
+#[tactic(auto, using(std::proofs::lemmas::List::append_assoc), unfolding(crate::specs::Text::evaluation))]
 fn push_evaluation(text: &mut Vec<u8>, position: u32, point: u32) -> Result<(), AllocError>
     ensures { OnOk result (text.new.items ≡ text.old.items ++ evaluation position point) }
 {

@@ -1,12 +1,13 @@
-use Rattle.std.proofs.Common.{Err, ap, ◌∙◌}
+use Rattle.std.proofs.Common.{Err, ap, subst, sym, ◌∙◌}
 use Rattle.pts_run.specs.declared.words.Command.TheVariants as commands
+use Rattle.pts_run.specs.Acceptance.{IsRunnable}
 use Rattle.pts_run.proofs.Endings.{run_ends, refused}
 use Rattle.pts_run.proofs.answer.run_script.Goals as goal
 
 pub returns-in-Ok-clause-ends : goal.returns-in-Ok-clause-ends
 returns-in-Ok-clause-ends g c = λ bytes reads.
     rw c.finished.ensures
-    (run_ends c.args.pool bytes c.args.script.now c.in-Ok.cleared c.run_program.result _ _ reads c.in-Ok.ensures.accepted c.run_program.ensures.whole c.run_program.ensures.part)
+    (run_ends c.args.pool bytes c.args.script.now c.program.result.now c.run_program-written.result _ _ reads (subst (IsRunnable c.args.script.now) (sym c.program.ensures.same) c.in-Ok.ensures.accepted) c.run_program-written.ensures.whole c.run_program-written.ensures.part)
 
 pub returns-in-Err-clause-ends : goal.returns-in-Err-clause-ends
 returns-in-Err-clause-ends g c = λ bytes reads.
