@@ -17,8 +17,6 @@ mod pair;
 mod places;
 mod points;
 mod search;
-#[cfg(test)]
-mod tests;
 
 pub use clearing::{ClearFault, Cleared, clear};
 pub use laws::one_least_conflict;
