@@ -1,5 +1,6 @@
 //! The writes to 64 arrays that follow one another.
 
+ghost use Rattle.std.specs.Bool.{OnTrue, OnFalse};
 ghost use Rattle.std.specs.Prelude.{◌≡◌, ◌≤◌, [], OnOk, OnErr, length};
 ghost use Rattle.pts_store.specs.Levels.{SameBand, PutsInBand, CoversBand, FitsBand};
 ghost use Rattle.pts_store.specs.Stores.{cells_with};
@@ -51,6 +52,19 @@ impl Band {
             Some(row) => row.get(index),
             None => None,
         }
+    }
+
+    /// Writes a value where the band has a slot for it, and says whether it has.
+    #[tactic(auto, unfolding(crate::specs::Writes::in_band))]
+    pub fn replace(&mut self, at: u32, index: u32, value: Value) -> bool
+        ensures done { OnTrue result (PutsInBand self.old self.new at index value) }
+        ensures same { OnFalse result (SameBand self.old self.new) }
+    {
+        let row = at as usize;
+        if row < self.rows.len() {
+            return self.rows[row].replace(index, value);
+        }
+        false
     }
 
     /// Writes a value.

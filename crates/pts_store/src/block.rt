@@ -1,5 +1,6 @@
 //! The writes to 8,192 cells that follow one another.
 
+ghost use Rattle.std.specs.Bool.{OnTrue, OnFalse};
 ghost use Rattle.std.specs.Prelude.{◌≡◌, ◌≤◌, [], OnOk, OnErr, length};
 ghost use Rattle.pts_store.specs.Levels.{Puts, Same, Covers, FitsBlock};
 ghost use Rattle.pts_store.specs.Stores.{shown};
@@ -52,6 +53,19 @@ impl Block {
         }
     }
 
+    /// Writes a value where the block has a slot for it, and says whether it has.
+    #[tactic(auto, unfolding(crate::specs::Writes::in_block))]
+    pub fn replace(&mut self, at: u32, value: Value) -> bool
+        ensures done { OnTrue result (Puts (in_block self.old) (in_block self.new) at value) }
+        ensures same { OnFalse result (Same (in_block self.old) (in_block self.new)) }
+    {
+        let page = (at / PAGE) as usize;
+        if page < self.pages.len() {
+            return self.pages[page].replace(at % PAGE, value);
+        }
+        false
+    }
+
     /// Writes a value.
     #[tactic(auto, unfolding(crate::specs::Writes::in_block))]
     pub fn set(&mut self, alloc: Global, at: u32, value: Value) -> Result<(), AllocError>
@@ -97,7 +111,7 @@ impl Block {
     {
         let size = PAGE as usize;
         let pages = self.pages.as_slice();
-        let count = least(least(pages.len(), 128), (cells.len() - base) / size + 1);
+        let count = least(least(pages.len(), 32), (cells.len() - base) / size + 1);
         for at in 0..count {
             pages[at].write_into(cells, base + at * size);
         }

@@ -1,5 +1,6 @@
-//! The writes to 64 cells that follow one another.
+//! The writes to 256 cells that follow one another.
 
+ghost use Rattle.std.specs.Bool.{OnTrue, OnFalse};
 ghost use Rattle.std.specs.Prelude.{◌≡◌, ◌≤◌, ℕ, [], OnOk, OnErr, get_or, length, vec_len};
 ghost use Rattle.pts_store.specs.declared.slot.Slot.TheVariants.{Nothing};
 ghost use Rattle.pts_store.specs.Levels.{Puts, Same, Covers, FitsPage};
@@ -14,10 +15,12 @@ use std::alloc::{AllocError, Global};
 use std::marker::Model;
 
 /// The number of cells of a page.
-pub const PAGE: u32 = 64;
+pub const PAGE: u32 = 256;
 
-// A page is as long as its last cell asks for up to this length, and else a whole one, so that it grows no more.
+// A page is as long as its last cell asks for up to the first length, then as long as the second one, and then a whole page, so that
+// it grows seldom.
 const FEW: usize = 4;
+const SOME: usize = 64;
 
 /// A list of slots, which may be shorter than a page.
 #[derive(Drop)]
@@ -54,6 +57,20 @@ impl Page {
             Some(slot) => slot.value(),
             None => None,
         }
+    }
+
+    /// Writes a value where the page has a slot for it, and says whether it has.
+    #[tactic(auto, unfolding(crate::specs::Writes::in_page))]
+    pub fn replace(&mut self, at: u32, value: Value) -> bool
+        ensures done { OnTrue result (Puts (in_page self.old) (in_page self.new) at value) }
+        ensures same { OnFalse result (Same (in_page self.old) (in_page self.new)) }
+    {
+        let at = at as usize;
+        if at < self.slots.len() {
+            self.slots[at] = Slot::of(value);
+            return true;
+        }
+        false
     }
 
     /// Writes a value.
@@ -96,7 +113,7 @@ impl Page {
     #[tactic(auto, unfolding(crate::specs::Writes::in_page))]
     pub fn write_into(&self, cells: &mut [Value], base: usize)
         requires { base ≤ length cells.old }
-        ensures { Shows shown (in_page self.now) base 64 cells.old cells.new }
+        ensures { Shows shown (in_page self.now) base 256 cells.old cells.new }
     {
         let slots = self.slots.as_slice();
         let count = least(least(slots.len(), PAGE as usize), cells.len() - base);
@@ -121,6 +138,8 @@ fn page_len(count: usize) -> usize
 {
     if count <= FEW || count > PAGE as usize {
         count
+    } else if count <= SOME {
+        SOME
     } else {
         PAGE as usize
     }

@@ -1,5 +1,6 @@
 //! The writes to one array.
 
+ghost use Rattle.std.specs.Bool.{OnTrue, OnFalse};
 ghost use Rattle.std.specs.Prelude.{◌≡◌, [], OnOk, OnErr};
 ghost use Rattle.pts_store.specs.Levels.{Puts, Same, Covers, FitsRow};
 ghost use Rattle.pts_store.specs.Stores.{cells_with};
@@ -46,6 +47,19 @@ impl Row {
             Some(block) => block.get(index % BLOCK),
             None => None,
         }
+    }
+
+    /// Writes a value where the row has a slot for it, and says whether it has.
+    #[tactic(auto, unfolding(crate::specs::Writes::in_row))]
+    pub fn replace(&mut self, index: u32, value: Value) -> bool
+        ensures done { OnTrue result (Puts (in_row self.old) (in_row self.new) index value) }
+        ensures same { OnFalse result (Same (in_row self.old) (in_row self.new)) }
+    {
+        let block = (index / BLOCK) as usize;
+        if block < self.blocks.len() {
+            return self.blocks[block].replace(index % BLOCK, value);
+        }
+        false
     }
 
     /// Writes a value.

@@ -1,5 +1,6 @@
 //! What calls write: at each cell of each array a value, or nothing.
 
+ghost use Rattle.std.specs.Bool.{OnTrue, OnFalse};
 ghost use Rattle.std.specs.Prelude.{◌≡◌, ◌↔◌, [], IsTrue, OnOk, OnErr};
 ghost use Rattle.pts_store.specs.Levels.{FitsWrites};
 ghost use Rattle.pts_store.specs.Stores.{accepted};
@@ -13,7 +14,7 @@ use std::alloc::{AllocError, Global};
 use std::marker::Model;
 
 /// Values for cells, at most one for each. They lie in lists of lists that are as long as the last cell in them asks for: up to
-/// some 17 bytes a cell for whole arrays, and up to 10 KB for a cell that is alone.
+/// some 17 bytes a cell for whole arrays, and up to 11 KB for a cell that is alone.
 #[derive(Drop)]
 pub struct Writes {
     bands: Vec<Band>,
@@ -59,8 +60,36 @@ impl Writes {
     }
 
     /// Writes a value to a cell, in place of an earlier one. With want of memory the writes stay as they are.
-    #[tactic(auto, unfolding(crate::specs::Writes::written))]
+    #[inline]
     pub fn set(&mut self, array: u32, index: u32, value: Value) -> Result<(), NoMemory>
+        ensures ok { OnOk result (PutsCell self.old self.new array index value) }
+        ensures err { OnErr result (SameWrites self.old self.new) }
+    {
+        if self.replace(array, index, value) {
+            return Ok(());
+        }
+        self.grow(array, index, value)
+    }
+
+    // Writes a value where there is a slot for it, and says whether there is one.
+    #[inline]
+    #[tactic(auto, unfolding(crate::specs::Writes::written))]
+    fn replace(&mut self, array: u32, index: u32, value: Value) -> bool
+        ensures done { OnTrue result (PutsCell self.old self.new array index value) }
+        ensures same { OnFalse result (SameWrites self.old self.new) }
+    {
+        let band = (array / BAND) as usize;
+        if band < self.bands.len() {
+            return self.bands[band].replace(array % BAND, index, value);
+        }
+        false
+    }
+
+    // Writes a value, and makes the lists long enough for it. It stands apart, so that what needs no memory saves no registers.
+    #[cold]
+    #[inline(never)]
+    #[tactic(auto, unfolding(crate::specs::Writes::written))]
+    fn grow(&mut self, array: u32, index: u32, value: Value) -> Result<(), NoMemory>
         ensures ok { OnOk result (PutsCell self.old self.new array index value) }
         ensures err { OnErr result (SameWrites self.old self.new) }
     {
