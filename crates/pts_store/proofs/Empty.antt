@@ -1,5 +1,5 @@
 -- Nothing is written in what is empty, nor past an end.
-use Rattle.std.proofs.Common.{◌≡◌, ◌≤◌, ℕ, ◌/◌, ◌%◌, None, [], length, refl, ap, ◌∙◌}
+use Rattle.std.proofs.Common.{◌≡◌, ◌≤◌, ℕ, ◌/◌, ◌%◌, None, List, [], length, get_or, refl, ap, ◌∙◌}
 use Rattle.std.proofs.Math.ListN.{get_or-eq_default}
 use Rattle.pts_store.specs.declared.slot.Slot.TheVariants.{Nothing}
 use Rattle.pts_store.specs.Writes.{Page, Block, Row, Band, Writes, held, in_page, in_block, in_row, in_band, written}
@@ -44,6 +44,11 @@ pub written-past : (writes : Writes) (array index : ℕ) → length writes ≤ a
 unfolding written
 written-past writes array index past =
     ap (λ band. in_band band (array % 64) index) (get_or-eq_default writes [] past) ∙ in_band-empty (array % 64) index
+
+pub length-past : {X : Type 0} (lists : List (List X)) (k : ℕ) → length lists ≤ k → length (get_or lists k []) ≡ 0
+length-past lists k past = ap length (get_or-eq_default lists [] past)
+
+pub ruleset no_slots = (length-past)
 
 pub ruleset nothing_in_pages = (in_page-empty, in_block-past)
 

@@ -1,5 +1,5 @@
 -- The lists that writes lie in: how a call changes one, and which have the places of others.
-use Rattle.std.specs.Prelude.{◌≡◌, ℕ, ◌≤◌, ◌==◌, ◌&&◌, if◌then◌else◌, Option, Some, [], length, get_or}
+use Rattle.std.specs.Prelude.{◌≡◌, ℕ, ◌<◌, ◌≤◌, ◌/◌, ◌%◌, ◌==◌, ◌&&◌, if◌then◌else◌, Option, Some, [], length, get_or}
 use Rattle.pts_types.specs.declared.value.Value.{Value}
 use Rattle.pts_store.specs.Writes.{Page, Block, Row, Band, Writes, in_band, over}
 
@@ -30,6 +30,23 @@ pub record PutsInBand (old new : Band) (at place : ℕ) (value : Value) : Type 0
 -- every cell has the later value, where there is one
 pub record CoversBand (old later new : Band) : Type 0 where
   pub cell : (k index : ℕ) → in_band new k index ≡ over (in_band old k index) (in_band later k index)
+
+-- ---- the slots that there are, whether or not something is written in them
+
+abbrev pub HasSlot : Page → ℕ → Type 0
+HasSlot page at = at < length page
+
+abbrev pub HasSlotInBlock : Block → ℕ → Type 0
+HasSlotInBlock block at = HasSlot (get_or block (at / 256) []) (at % 256)
+
+abbrev pub HasSlotInRow : Row → ℕ → Type 0
+HasSlotInRow row index = HasSlotInBlock (get_or row (index / 8192) []) (index % 8192)
+
+abbrev pub HasSlotInBand : Band → ℕ → ℕ → Type 0
+HasSlotInBand band at index = HasSlotInRow (get_or band at []) index
+
+abbrev pub HasSlotInWrites : Writes → ℕ → ℕ → Type 0
+HasSlotInWrites writes array index = HasSlotInBand (get_or writes (array / 64) []) (array % 64) index
 
 -- ---- the places of others
 

@@ -1,8 +1,8 @@
 //! The writes to 64 arrays that follow one another.
 
 ghost use Rattle.std.specs.Bool.{OnTrue, OnFalse};
-ghost use Rattle.std.specs.Prelude.{◌≡◌, ◌≤◌, [], OnOk, OnErr, length};
-ghost use Rattle.pts_store.specs.Levels.{SameBand, PutsInBand, CoversBand, FitsBand};
+ghost use Rattle.std.specs.Prelude.{◌≡◌, ◌≤◌, [], IsTrue, OnOk, OnErr, length};
+ghost use Rattle.pts_store.specs.Levels.{SameBand, PutsInBand, CoversBand, HasSlotInBand, FitsBand};
 ghost use Rattle.pts_store.specs.Stores.{cells_with};
 ghost use Rattle.pts_store.specs.Stretches.{Shows};
 ghost use Rattle.pts_store.specs.Writes.{in_band};
@@ -55,10 +55,11 @@ impl Band {
     }
 
     /// Writes a value where the band has a slot for it, and says whether it has.
-    #[tactic(auto, unfolding(crate::specs::Writes::in_band))]
+    #[tactic(auto, using(crate::proofs::Empty::no_slots), unfolding(crate::specs::Writes::in_band))]
     pub fn replace(&mut self, at: u32, index: u32, value: Value) -> bool
         ensures done { OnTrue result (PutsInBand self.old self.new at index value) }
         ensures same { OnFalse result (SameBand self.old self.new) }
+        ensures there { HasSlotInBand self.old at index → IsTrue result }
     {
         let row = at as usize;
         if row < self.rows.len() {
@@ -67,21 +68,15 @@ impl Band {
         false
     }
 
-    /// Writes a value.
+    /// Makes a slot for a cell. What is written stays.
     #[tactic(auto, unfolding(crate::specs::Writes::in_band))]
-    pub fn set(
-        &mut self,
-        alloc: Global,
-        at: u32,
-        index: u32,
-        value: Value,
-    ) -> Result<(), AllocError>
-        ensures ok { OnOk result (PutsInBand self.old self.new at index value) }
-        ensures err { OnErr result (SameBand self.old self.new) }
+    pub fn add_slot(&mut self, alloc: Global, at: u32, index: u32) -> Result<(), AllocError>
+        ensures there { OnOk result (HasSlotInBand self.new at index) }
+        ensures same { SameBand self.old self.new }
     {
         let row = at as usize;
         pad(alloc, &mut self.rows, row + 1)?;
-        self.rows[row].set(alloc, index, value)
+        self.rows[row].add_slot(alloc, index)
     }
 
     /// Makes room for the cells of another band. What is written stays.

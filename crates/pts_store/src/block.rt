@@ -1,8 +1,8 @@
 //! The writes to 8,192 cells that follow one another.
 
 ghost use Rattle.std.specs.Bool.{OnTrue, OnFalse};
-ghost use Rattle.std.specs.Prelude.{◌≡◌, ◌≤◌, [], OnOk, OnErr, length};
-ghost use Rattle.pts_store.specs.Levels.{Puts, Same, Covers, FitsBlock};
+ghost use Rattle.std.specs.Prelude.{◌≡◌, ◌≤◌, [], IsTrue, OnOk, OnErr, length};
+ghost use Rattle.pts_store.specs.Levels.{Puts, Same, Covers, HasSlotInBlock, FitsBlock};
 ghost use Rattle.pts_store.specs.Stores.{shown};
 ghost use Rattle.pts_store.specs.Stretches.{Shows};
 ghost use Rattle.pts_store.specs.Writes.{in_block};
@@ -54,10 +54,11 @@ impl Block {
     }
 
     /// Writes a value where the block has a slot for it, and says whether it has.
-    #[tactic(auto, unfolding(crate::specs::Writes::in_block))]
+    #[tactic(auto, using(crate::proofs::Empty::no_slots), unfolding(crate::specs::Writes::in_block))]
     pub fn replace(&mut self, at: u32, value: Value) -> bool
         ensures done { OnTrue result (Puts (in_block self.old) (in_block self.new) at value) }
         ensures same { OnFalse result (Same (in_block self.old) (in_block self.new)) }
+        ensures there { HasSlotInBlock self.old at → IsTrue result }
     {
         let page = (at / PAGE) as usize;
         if page < self.pages.len() {
@@ -66,15 +67,15 @@ impl Block {
         false
     }
 
-    /// Writes a value.
+    /// Makes a slot for a place. What is written stays.
     #[tactic(auto, unfolding(crate::specs::Writes::in_block))]
-    pub fn set(&mut self, alloc: Global, at: u32, value: Value) -> Result<(), AllocError>
-        ensures ok { OnOk result (Puts (in_block self.old) (in_block self.new) at value) }
-        ensures err { OnErr result (Same (in_block self.old) (in_block self.new)) }
+    pub fn add_slot(&mut self, alloc: Global, at: u32) -> Result<(), AllocError>
+        ensures there { OnOk result (HasSlotInBlock self.new at) }
+        ensures same { Same (in_block self.old) (in_block self.new) }
     {
         let page = (at / PAGE) as usize;
         pad(alloc, &mut self.pages, page + 1)?;
-        self.pages[page].set(at % PAGE, value)
+        self.pages[page].add_slot(at % PAGE)
     }
 
     /// Makes room for the cells of another block. What is written stays.

@@ -1,9 +1,9 @@
 //! The writes to 256 cells that follow one another.
 
 ghost use Rattle.std.specs.Bool.{OnTrue, OnFalse};
-ghost use Rattle.std.specs.Prelude.{◌≡◌, ◌≤◌, ℕ, [], OnOk, OnErr, get_or, length, vec_len};
+ghost use Rattle.std.specs.Prelude.{◌≡◌, ◌≤◌, ℕ, [], IsTrue, OnOk, OnErr, get_or, length, vec_len};
 ghost use Rattle.pts_store.specs.declared.slot.Slot.TheVariants.{Nothing};
-ghost use Rattle.pts_store.specs.Levels.{Puts, Same, Covers, FitsPage};
+ghost use Rattle.pts_store.specs.Levels.{Puts, Same, Covers, HasSlot, FitsPage};
 ghost use Rattle.pts_store.specs.Stores.{shown};
 ghost use Rattle.pts_store.specs.Stretches.{Shows};
 ghost use Rattle.pts_store.specs.Writes.{in_page};
@@ -20,6 +20,7 @@ pub const PAGE: u32 = 256;
 // A page is as long as its last cell asks for up to the first length, then as long as the second one, and then a whole page, so that
 // it grows seldom.
 const FEW: usize = 4;
+
 const SOME: usize = 64;
 
 /// A list of slots, which may be shorter than a page.
@@ -64,6 +65,7 @@ impl Page {
     pub fn replace(&mut self, at: u32, value: Value) -> bool
         ensures done { OnTrue result (Puts (in_page self.old) (in_page self.new) at value) }
         ensures same { OnFalse result (Same (in_page self.old) (in_page self.new)) }
+        ensures there { HasSlot self.old at → IsTrue result }
     {
         let at = at as usize;
         if at < self.slots.len() {
@@ -73,16 +75,13 @@ impl Page {
         false
     }
 
-    /// Writes a value.
+    /// Makes a slot for a place. What is written stays.
     #[tactic(auto, unfolding(crate::specs::Writes::in_page))]
-    pub fn set(&mut self, at: u32, value: Value) -> Result<(), AllocError>
-        ensures ok { OnOk result (Puts (in_page self.old) (in_page self.new) at value) }
-        ensures err { OnErr result (Same (in_page self.old) (in_page self.new)) }
+    pub fn add_slot(&mut self, at: u32) -> Result<(), AllocError>
+        ensures there { OnOk result (HasSlot self.new at) }
+        ensures same { Same (in_page self.old) (in_page self.new) }
     {
-        let at = at as usize;
-        pad_slots(&mut self.slots, at + 1)?;
-        self.slots[at] = Slot::of(value);
-        Ok(())
+        pad_slots(&mut self.slots, at as usize + 1)
     }
 
     /// Makes room for the cells of another page. What is written stays.

@@ -1,8 +1,8 @@
 //! The writes to one array.
 
 ghost use Rattle.std.specs.Bool.{OnTrue, OnFalse};
-ghost use Rattle.std.specs.Prelude.{◌≡◌, [], OnOk, OnErr};
-ghost use Rattle.pts_store.specs.Levels.{Puts, Same, Covers, FitsRow};
+ghost use Rattle.std.specs.Prelude.{◌≡◌, [], IsTrue, OnOk, OnErr};
+ghost use Rattle.pts_store.specs.Levels.{Puts, Same, Covers, HasSlotInRow, FitsRow};
 ghost use Rattle.pts_store.specs.Stores.{cells_with};
 ghost use Rattle.pts_store.specs.Writes.{in_row};
 
@@ -50,10 +50,11 @@ impl Row {
     }
 
     /// Writes a value where the row has a slot for it, and says whether it has.
-    #[tactic(auto, unfolding(crate::specs::Writes::in_row))]
+    #[tactic(auto, using(crate::proofs::Empty::no_slots), unfolding(crate::specs::Writes::in_row))]
     pub fn replace(&mut self, index: u32, value: Value) -> bool
         ensures done { OnTrue result (Puts (in_row self.old) (in_row self.new) index value) }
         ensures same { OnFalse result (Same (in_row self.old) (in_row self.new)) }
+        ensures there { HasSlotInRow self.old index → IsTrue result }
     {
         let block = (index / BLOCK) as usize;
         if block < self.blocks.len() {
@@ -62,15 +63,15 @@ impl Row {
         false
     }
 
-    /// Writes a value.
+    /// Makes a slot for a cell. What is written stays.
     #[tactic(auto, unfolding(crate::specs::Writes::in_row))]
-    pub fn set(&mut self, alloc: Global, index: u32, value: Value) -> Result<(), AllocError>
-        ensures ok { OnOk result (Puts (in_row self.old) (in_row self.new) index value) }
-        ensures err { OnErr result (Same (in_row self.old) (in_row self.new)) }
+    pub fn add_slot(&mut self, alloc: Global, index: u32) -> Result<(), AllocError>
+        ensures there { OnOk result (HasSlotInRow self.new index) }
+        ensures same { Same (in_row self.old) (in_row self.new) }
     {
         let block = (index / BLOCK) as usize;
         pad(alloc, &mut self.blocks, block + 1)?;
-        self.blocks[block].set(alloc, index % BLOCK, value)
+        self.blocks[block].add_slot(alloc, index % BLOCK)
     }
 
     /// Makes room for the cells of another row. What is written stays.

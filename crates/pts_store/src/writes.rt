@@ -2,7 +2,7 @@
 
 ghost use Rattle.std.specs.Bool.{OnTrue, OnFalse};
 ghost use Rattle.std.specs.Prelude.{◌≡◌, ◌↔◌, [], IsTrue, OnOk, OnErr};
-ghost use Rattle.pts_store.specs.Levels.{FitsWrites};
+ghost use Rattle.pts_store.specs.Levels.{HasSlotInWrites, FitsWrites};
 ghost use Rattle.pts_store.specs.Stores.{accepted};
 ghost use Rattle.pts_store.specs.Writes.{written, SameWrites, PutsCell, Merges};
 
@@ -65,18 +65,20 @@ impl Writes {
         ensures ok { OnOk result (PutsCell self.old self.new array index value) }
         ensures err { OnErr result (SameWrites self.old self.new) }
     {
-        if self.replace(array, index, value) {
-            return Ok(());
+        if !self.replace(array, index, value) {
+            self.add_slot(array, index)?;
+            self.replace(array, index, value);
         }
-        self.grow(array, index, value)
+        Ok(())
     }
 
     // Writes a value where there is a slot for it, and says whether there is one.
     #[inline]
-    #[tactic(auto, unfolding(crate::specs::Writes::written))]
+    #[tactic(auto, using(crate::proofs::Empty::no_slots), unfolding(crate::specs::Writes::written))]
     fn replace(&mut self, array: u32, index: u32, value: Value) -> bool
         ensures done { OnTrue result (PutsCell self.old self.new array index value) }
         ensures same { OnFalse result (SameWrites self.old self.new) }
+        ensures there { HasSlotInWrites self.old array index → IsTrue result }
     {
         let band = (array / BAND) as usize;
         if band < self.bands.len() {
@@ -85,18 +87,17 @@ impl Writes {
         false
     }
 
-    // Writes a value, and makes the lists long enough for it. It stands apart, so that what needs no memory saves no registers.
+    // Makes a slot for a cell. What is written stays. It is seldom called, and takes no value, which would then lie in memory each time.
     #[cold]
     #[inline(never)]
     #[tactic(auto, unfolding(crate::specs::Writes::written))]
-    fn grow(&mut self, array: u32, index: u32, value: Value) -> Result<(), NoMemory>
-        ensures ok { OnOk result (PutsCell self.old self.new array index value) }
-        ensures err { OnErr result (SameWrites self.old self.new) }
+    fn add_slot(&mut self, array: u32, index: u32) -> Result<(), AllocError>
+        ensures there { OnOk result (HasSlotInWrites self.new array index) }
+        ensures same { SameWrites self.old self.new }
     {
         let band = (array / BAND) as usize;
         pad(self.alloc, &mut self.bands, band + 1)?;
-        self.bands[band].set(self.alloc, array % BAND, index, value)?;
-        Ok(())
+        self.bands[band].add_slot(self.alloc, array % BAND, index)
     }
 
     // Makes room for the cells of other writes. What is written stays.
