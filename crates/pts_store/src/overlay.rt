@@ -82,6 +82,7 @@ impl<'a> Overlay<'a> {
     }
 
     /// Writes a value to a cell. With want of memory the overlay stays as it is.
+    #[inline(always)]
     pub fn set(&mut self, array: u32, index: u32, value: Value) -> Result<(), NoMemory>
         ensures stands { OnOk result (self.new.stands ≡ put_cell self.old.stands array index value) }
         ensures writes { OnOk result (PutsCell self.old.writes self.new.writes array index value) }

@@ -60,7 +60,8 @@ impl Writes {
     }
 
     /// Writes a value to a cell, in place of an earlier one. With want of memory the writes stay as they are.
-    #[inline]
+    // Within its callers the value stays in registers: in memory it would fill the queue of stores, and random writes take twice as long.
+    #[inline(always)]
     pub fn set(&mut self, array: u32, index: u32, value: Value) -> Result<(), NoMemory>
         ensures ok { OnOk result (PutsCell self.old self.new array index value) }
         ensures err { OnErr result (SameWrites self.old self.new) }
@@ -73,7 +74,7 @@ impl Writes {
     }
 
     // Writes a value where there is a slot for it, and says whether there is one.
-    #[inline]
+    #[inline(always)]
     #[tactic(auto, using(crate::proofs::Empty::no_slots), unfolding(crate::specs::Writes::written))]
     fn replace(&mut self, array: u32, index: u32, value: Value) -> bool
         ensures done { OnTrue result (PutsCell self.old self.new array index value) }
@@ -87,7 +88,7 @@ impl Writes {
         false
     }
 
-    // Makes a slot for a cell. What is written stays. It is seldom called, and takes no value, which would then lie in memory each time.
+    // Makes a slot for a cell. What is written stays. It takes no value, which would then have to lie in memory at each write.
     #[cold]
     #[inline(never)]
     #[tactic(auto, unfolding(crate::specs::Writes::written))]
