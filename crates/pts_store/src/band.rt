@@ -55,6 +55,7 @@ impl Band {
     }
 
     /// Writes a value where the band has a slot for it, and says whether it has.
+    #[inline(always)]
     #[tactic(auto, using(crate::proofs::Empty::no_slots), unfolding(crate::specs::Writes::in_band))]
     pub fn replace(&mut self, at: u32, index: u32, value: Value) -> bool
         ensures done { OnTrue result (PutsInBand self.old self.new at index value) }

@@ -54,6 +54,7 @@ impl Block {
     }
 
     /// Writes a value where the block has a slot for it, and says whether it has.
+    #[inline(always)]
     #[tactic(auto, using(crate::proofs::Empty::no_slots), unfolding(crate::specs::Writes::in_block))]
     pub fn replace(&mut self, at: u32, value: Value) -> bool
         ensures done { OnTrue result (Puts (in_block self.old) (in_block self.new) at value) }

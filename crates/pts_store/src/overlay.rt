@@ -68,16 +68,18 @@ impl<'a> Overlay<'a> {
     }
 
     /// The value that a cell has with the writes of this overlay and of those below it.
+    #[inline]
     pub fn cell(&self, array: u32, index: u32) -> Value
         requires { IsCell self.now.stands array index }
         ensures { Some result ≡ slice_get (cells_in self.now.stands array) index }
     {
         match self.writes.get(array, index) {
             Some(value) => value,
-            None => match self.base {
-                Base::OnStore(store) => store.cell(array, index),
-                Base::OnOverlay(lower) => lower.cell(array, index),
-            },
+            None => {
+                let mut found = Value::Bool(false);
+                self.base.read(array, index, &mut found);
+                found
+            }
         }
     }
 
@@ -110,6 +112,22 @@ impl<'a> Overlay<'a> {
         ensures stands { accepted self.entry.below result ≡ self.entry.stands }
     {
         self.writes
+    }
+}
+
+impl<'a> Base<'a> {
+    // Reads a cell of the store that it stands for. The value is given through `found`, so that a walk down many overlays is a loop.
+    fn read(self, array: u32, index: u32, found: &mut Value)
+        requires { IsCell (below self) array index }
+        ensures { Some found.new ≡ slice_get (cells_in (below self.entry) array) index }
+    {
+        match self {
+            Base::OnStore(store) => *found = store.cell(array, index),
+            Base::OnOverlay(lower) => match lower.writes.get(array, index) {
+                Some(value) => *found = value,
+                None => lower.base.read(array, index, found),
+            },
+        }
     }
 }
 

@@ -61,6 +61,7 @@ impl Page {
     }
 
     /// Writes a value where the page has a slot for it, and says whether it has.
+    #[inline(always)]
     #[tactic(auto, unfolding(crate::specs::Writes::in_page))]
     pub fn replace(&mut self, at: u32, value: Value) -> bool
         ensures done { OnTrue result (Puts (in_page self.old) (in_page self.new) at value) }

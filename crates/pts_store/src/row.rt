@@ -50,6 +50,7 @@ impl Row {
     }
 
     /// Writes a value where the row has a slot for it, and says whether it has.
+    #[inline(always)]
     #[tactic(auto, using(crate::proofs::Empty::no_slots), unfolding(crate::specs::Writes::in_row))]
     pub fn replace(&mut self, index: u32, value: Value) -> bool
         ensures done { OnTrue result (Puts (in_row self.old) (in_row self.new) index value) }
