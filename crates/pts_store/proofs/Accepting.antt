@@ -29,19 +29,19 @@ page-next page base at old mid value slot x first inside within is =
     subst P (sym same) (Shows-set shown (in_page page) base at old mid here first within there)
 
 pub block-next : (pages : Block) (base at : ℕ) (old mid new : List Value)
-    → Shows shown (in_block pages) base (at * 256) old mid
-    → Shows shown (in_page (get_or pages at [])) (base + at * 256) 256 mid new
-    → Shows shown (in_block pages) base ((at + 1) * 256) old new
+    → Shows shown (in_block pages) base (at * 128) old mid
+    → Shows shown (in_page (get_or pages at [])) (base + at * 128) 128 mid new
+    → Shows shown (in_block pages) base ((at + 1) * 128) old new
 unfolding in_block
 block-next pages base at old mid new first page =
-    let agree : (k : ℕ) → k < 256 → in_page (get_or pages at []) k ≡ in_block pages (at * 256 + k) =
+    let agree : (k : ℕ) → k < 128 → in_page (get_or pages at []) k ≡ in_block pages (at * 128 + k) =
     λ k less.
-    let quotient : at ≡ (at * 256 + k) / 256 = omega arith in
-    let rest : k ≡ (at * 256 + k) % 256 = omega arith in
-    ap (λ q. in_page (get_or pages q []) k) quotient ∙ ap (in_page (get_or pages ((at * 256 + k) / 256) [])) rest in
-    let sum : at * 256 + 256 ≡ (at + 1) * 256 = omega arith in
+    let quotient : at ≡ (at * 128 + k) / 128 = omega arith in
+    let rest : k ≡ (at * 128 + k) % 128 = omega arith in
+    ap (λ q. in_page (get_or pages q []) k) quotient ∙ ap (in_page (get_or pages ((at * 128 + k) / 128) [])) rest in
+    let sum : at * 128 + 128 ≡ (at + 1) * 128 = omega arith in
     let P : ℕ → Type 0 = λ size. Shows shown (in_block pages) base size old new in
-    subst P sum (Shows-next shown (in_block pages) (in_page (get_or pages at [])) base (at * 256) 256 old mid new first page agree)
+    subst P sum (Shows-next shown (in_block pages) (in_page (get_or pages at [])) base (at * 128) 128 old mid new first page agree)
 
 pub row-next : (blocks : Row) (at : ℕ) (old mid new : List Value)
     → Shows shown (in_row blocks) 0 (at * 8192) old mid
@@ -80,19 +80,19 @@ writes-next bands at old mid new first band =
 -- ---- nothing is left over
 
 pub page-done : (page : Page) (base count : ℕ) (old new : List Value)
-    → Shows shown (in_page page) base count old new → count ≡ min (min (length page) 256) (length old - base)
-    → Shows shown (in_page page) base 256 old new
+    → Shows shown (in_page page) base count old new → count ≡ min (min (length page) 128) (length old - base)
+    → Shows shown (in_page page) base 128 old new
 page-done page base count old new s all =
-    Shows-longer shown (in_page page) base count 256 (length page) old new s (omega arith)
+    Shows-longer shown (in_page page) base count 128 (length page) old new s (omega arith)
     (λ k past x. ap (λ o. shown o x) (in_page-past page k past))
     (λ k low high here. omega arith)
 
 pub block-done : (pages : Block) (base count : ℕ) (old new : List Value)
-    → Shows shown (in_block pages) base (count * 256) old new → count ≡ min (min (length pages) 32) ((length old - base) / 256 + 1)
+    → Shows shown (in_block pages) base (count * 128) old new → count ≡ min (min (length pages) 64) ((length old - base) / 128 + 1)
     → Shows shown (in_block pages) base 8192 old new
 block-done pages base count old new s all =
-    Shows-longer shown (in_block pages) base (count * 256) 8192 (length pages * 256) old new s (omega arith)
-    (λ k past x. let far : length pages ≤ k / 256 = omega arith in ap (λ o. shown o x) (in_block-past pages k far))
+    Shows-longer shown (in_block pages) base (count * 128) 8192 (length pages * 128) old new s (omega arith)
+    (λ k past x. let far : length pages ≤ k / 128 = omega arith in ap (λ o. shown o x) (in_block-past pages k far))
     (λ k low high here. omega arith)
 
 pub band-done : (rows : Band) (base count : ℕ) (old new : Store)

@@ -10,7 +10,7 @@ in_page-empty k = refl
 
 pub in_block-empty : (k : ℕ) → in_block [] k ≡ None
 unfolding in_block
-in_block-empty k = in_page-empty (k % 256)
+in_block-empty k = in_page-empty (k % 128)
 
 pub in_row-empty : (index : ℕ) → in_row [] index ≡ None
 unfolding in_row
@@ -28,9 +28,9 @@ pub in_page-past : (page : Page) (k : ℕ) → length page ≤ k → in_page pag
 unfolding in_page
 in_page-past page k past = ap held (get_or-eq_default page Nothing past)
 
-pub in_block-past : (block : Block) (k : ℕ) → length block ≤ k / 256 → in_block block k ≡ None
+pub in_block-past : (block : Block) (k : ℕ) → length block ≤ k / 128 → in_block block k ≡ None
 unfolding in_block
-in_block-past block k past = ap (λ page. in_page page (k % 256)) (get_or-eq_default block [] past) ∙ in_page-empty (k % 256)
+in_block-past block k past = ap (λ page. in_page page (k % 128)) (get_or-eq_default block [] past) ∙ in_page-empty (k % 128)
 
 pub in_row-past : (row : Row) (index : ℕ) → length row ≤ index / 8192 → in_row row index ≡ None
 unfolding in_row

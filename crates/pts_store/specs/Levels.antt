@@ -37,7 +37,7 @@ abbrev pub HasSlot : Page → ℕ → Type 0
 HasSlot page at = at < length page
 
 abbrev pub HasSlotInBlock : Block → ℕ → Type 0
-HasSlotInBlock block at = HasSlot (get_or block (at / 256) []) (at % 256)
+HasSlotInBlock block at = HasSlot (get_or block (at / 128) []) (at % 128)
 
 abbrev pub HasSlotInRow : Row → ℕ → Type 0
 HasSlotInRow row index = HasSlotInBlock (get_or row (index / 8192) []) (index % 8192)

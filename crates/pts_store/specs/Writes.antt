@@ -14,7 +14,7 @@ held (slots.U64 n) = Some (values.U64 n)
 held (slots.Bool b) = Some (values.Bool b)
 held slots.Nothing = None
 
--- a page has the slots of 256 cells, a block 32 pages, a row the blocks of one array, a band 64 rows
+-- a page has the slots of 128 cells, a block 64 pages, a row the blocks of one array, a band 64 rows
 abbrev pub Page : Type 0
 Page = List Slot
 
@@ -35,7 +35,7 @@ unfoldable pub in_page : Page → ℕ → Option Value
 in_page page at = held (get_or page at slots.Nothing)
 
 unfoldable pub in_block : Block → ℕ → Option Value
-in_block block at = in_page (get_or block (at / 256) []) (at % 256)
+in_block block at = in_page (get_or block (at / 128) []) (at % 128)
 
 unfoldable pub in_row : Row → ℕ → Option Value
 in_row row index = in_block (get_or row (index / 8192) []) (index % 8192)

@@ -113,7 +113,7 @@ impl Block {
     {
         let size = PAGE as usize;
         let pages = self.pages.as_slice();
-        let count = least(least(pages.len(), 32), (cells.len() - base) / size + 1);
+        let count = least(least(pages.len(), 64), (cells.len() - base) / size + 1);
         for at in 0..count {
             pages[at].write_into(cells, base + at * size);
         }

@@ -1,4 +1,4 @@
-//! The writes to 256 cells that follow one another.
+//! The writes to 128 cells that follow one another.
 
 ghost use Rattle.std.specs.Bool.{OnTrue, OnFalse};
 ghost use Rattle.std.specs.Prelude.{◌≡◌, ◌≤◌, ℕ, [], IsTrue, OnOk, OnErr, get_or, length, vec_len};
@@ -15,7 +15,7 @@ use std::alloc::{AllocError, Global};
 use std::marker::Model;
 
 /// The number of cells of a page.
-pub const PAGE: u32 = 256;
+pub const PAGE: u32 = 128;
 
 // A page is as long as its last cell asks for up to the first length, then as long as the second one, and then a whole page, so that
 // it grows seldom.
@@ -113,7 +113,7 @@ impl Page {
     #[tactic(auto, unfolding(crate::specs::Writes::in_page))]
     pub fn write_into(&self, cells: &mut [Value], base: usize)
         requires { base ≤ length cells.old }
-        ensures { Shows shown (in_page self.now) base 256 cells.old cells.new }
+        ensures { Shows shown (in_page self.now) base 128 cells.old cells.new }
     {
         let slots = self.slots.as_slice();
         let count = least(least(slots.len(), PAGE as usize), cells.len() - base);

@@ -14,7 +14,7 @@ use std::alloc::{AllocError, Global};
 use std::marker::Model;
 
 /// Values for cells, at most one for each. They lie in lists of lists that are as long as the last cell in them asks for: up to
-/// some 17 bytes a cell for whole arrays, and up to 11 KB for a cell that is alone.
+/// some 17 bytes a cell for whole arrays, and up to 10 KB for a cell that is alone.
 #[derive(Drop)]
 pub struct Writes {
     bands: Vec<Band>,

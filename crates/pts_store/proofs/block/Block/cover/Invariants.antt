@@ -7,5 +7,5 @@ abbrev pub invariant-loop-at : goal.invariant-loop-at
 invariant-loop-at l = record {
   few : length l.pages ≤ length l.self-inside.pages.items;
   rest : (k : ℕ) → l.at ≤ k → FitsPage (get_or l.pages k []) (get_or l.self-inside.pages.items k []);
-  place : (k : ℕ) → in_block l.self-inside.pages.items k ≡ (if nat_lt (k / 256) l.at then over (in_block l.fn.self k) (in_block l.pages k) else in_block l.fn.self k);
+  place : (k : ℕ) → in_block l.self-inside.pages.items k ≡ (if nat_lt (k / 128) l.at then over (in_block l.fn.self k) (in_block l.pages k) else in_block l.fn.self k);
 }
