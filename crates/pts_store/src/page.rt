@@ -21,7 +21,7 @@ pub const PAGE: u32 = 128;
 // it grows seldom.
 const FEW: usize = 4;
 
-const SOME: usize = 64;
+const SOME: usize = 16;
 
 /// A list of slots, which may be shorter than a page.
 #[derive(Drop)]
