@@ -1,0 +1,5 @@
+pub mod Acts
+pub mod Calls
+pub mod Effects
+pub mod Laws
+pub mod Touching
