@@ -13,13 +13,13 @@ own [] i d x h = sym (h (omega arith))
 own (y ∷ xs) zero d x h = refl
 own (y ∷ xs) (suc i) d x h = own xs i d x (λ past. h (omega (arith, past)))
 
-set_twice : {A : Type 0} (xs : List A) (i : ℕ) (x y : A) → set (set xs i x) i y ≡ set xs i y
+pub set_twice : {A : Type 0} (xs : List A) (i : ℕ) (x y : A) → set (set xs i x) i y ≡ set xs i y
 set_twice [] i x y = refl
 set_twice (z ∷ xs) zero x y = refl
 set_twice (z ∷ xs) (suc i) x y = ap (λ l. z ∷ l) (set_twice xs i x y)
 
 -- a row with a value more, as it is found again
-row_own : (m : WrittenCells) (a i : ℕ) (v : Option Value) → get_or (set m a (set (get_or m a []) i v)) a [] ≡ set (get_or m a []) i v
+pub row_own : (m : WrittenCells) (a i : ℕ) (v : Option Value) → get_or (set m a (set (get_or m a []) i v)) a [] ≡ set (get_or m a []) i v
 row_own m a i v = own m a [] (set (get_or m a []) i v) (λ past. ap (λ row. set row i v) (get_or_past m a [] past))
 
 -- ---- cells

@@ -19,6 +19,10 @@ no_value value = None
 abbrev pub none_written : Store → WrittenCells
 none_written store = map (map no_value) store
 
+-- these are written cells of the store
+pub record AreCellsOf (store : Store) (cells : WrittenCells) : Type 0 where
+  pub rows : (array : ℕ) → length (get_or cells array []) ≡ length (cells_in store array)
+
 -- what is written to a cell
 abbrev pub written_at : WrittenCells → Cell → Option Value
 written_at cells c = get_or (get_or cells c.array []) c.index None
