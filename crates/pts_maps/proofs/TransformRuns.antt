@@ -1,7 +1,7 @@
 -- A transform as it runs over an overlay.
 use Rattle.std.proofs.Common.{◌≡◌, ℕ, ◌+◌, ◌<◌, ◌≤◌, Option, Some, None, List, [], ◌∷◌, length, ap, sym, ◌∙◌, subst, arith}
 use Rattle.std.specs.Prelude.{IfOk, IfSome, Result, Ok, Err}
-use Rattle.std.specs.Option.{option_and_then}
+use Rattle.std.specs.Option.{option_and_then, option_map}
 use Rattle.pts_types.specs.declared.value.NoMemory.{NoMemory}
 use Rattle.pts_types.specs.declared.value.Value.{Value}
 use Rattle.pts_code.specs.declared.function.FunctionInfo.{FunctionInfo}
@@ -20,9 +20,10 @@ use Rattle.pts_cells.specs.WrittenCells.{AreWritten, WrittenCells}
 use Rattle.pts_outcomes.specs.Calls.{in_index_order, keeps_order}
 use Rattle.pts_outcomes.specs.MapCalls.{as_transform, element, shared_positions, size_in, transform_call, turned}
 use Rattle.pts_outcomes.proofs.MapRuns.{turn_goes, turn_throws}
-use Rattle.pts_outcomes.proofs.Orders.{index_order_is_allowed}
+use Rattle.pts_outcomes.specs.Laws.{IsClear}
+use Rattle.pts_outcomes.proofs.Orders.{index_order_is_allowed, orders_agree}
 use Rattle.pts_outcomes.proofs.Turns.{begun, ended}
-use Rattle.pts_eval.specs.Maps.{for_each_at, transform_at, EndsWith, MapEnd, PermitsAnswer, PermitsTransform, Terminated}
+use Rattle.pts_eval.specs.Maps.{for_each_at, transform_at, EndsAlongAll, EndsWith, MapEnd, PermitsAnswer, PermitsTransform, Terminated}
 use Rattle.pts_eval.specs.Runs.{range_in}
 use Rattle.pts_eval.specs.Sums.{given_by}
 use Rattle.pts_calls.proofs.RangeCells.{length-range}
@@ -130,6 +131,14 @@ in_order functions store call end writes h = record {
   ends = h;
 }
 
+-- without conflict, all orders end as index order
+in_all_orders : (functions : List FunctionInfo) (store : Store) (call : Transform) (end : MapEnd) (writes : Writes)
+    → IsClear store (keeps_order call.policy) (transform_call functions store call) → EndsWith (in_turn functions store call) end writes
+    → EndsAlongAll functions store call end writes
+in_all_orders functions store call end writes clear h order allowed =
+    subst (λ o. EndsWith o end writes)
+    (ap (option_map (λ s. s.memory)) (sym (orders_agree store (keeps_order call.policy) (transform_call functions store call) clear order allowed))) h
+
 module _ (workers : ℕ) (lists : Lists) (number : ℕ) (store : Store) where
   pub permitted_transform : (call : Transform) (result : Result MapAnswer NoMemory) (found : Option Transform) → found ≡ transform_at lists number → found ≡ Some call
       → IfOk result (λ answer. EndsWith (in_turn lists.functions store call) (end_of answer.answer) answer.writes)
@@ -146,3 +155,24 @@ module _ (workers : ℕ) (lists : Lists) (number : ℕ) (store : Store) where
   permitted_for_each call (Ok answer) found is e h =
       subst (λ o. IfSome o (λ x. PermitsAnswer workers lists.functions store (lowered.ForEach x) (end_of answer.answer) answer.writes)) (sym e ∙ is)
       (in_order lists.functions store (as_transform call) (end_of answer.answer) answer.writes h)
+
+  pub ordered_transform : (call : Transform) (result : Result MapAnswer NoMemory) (found : Option Transform) → found ≡ transform_at lists number → found ≡ Some call
+      → IfOk result (λ answer. EndsWith (in_turn lists.functions store call) (end_of answer.answer) answer.writes)
+      → IfOk result (λ answer. IfSome (transform_at lists number) (λ x.
+      IsClear store (keeps_order x.policy) (transform_call lists.functions store x) → EndsAlongAll lists.functions store x (end_of answer.answer) answer.writes))
+  ordered_transform call (Err fault) found is e h = h
+  ordered_transform call (Ok answer) found is e h =
+      subst (λ o. IfSome o (λ x. IsClear store (keeps_order x.policy) (transform_call lists.functions store x)
+      → EndsAlongAll lists.functions store x (end_of answer.answer) answer.writes)) (sym e ∙ is)
+      (λ clear. in_all_orders lists.functions store call (end_of answer.answer) answer.writes clear h)
+
+  pub ordered_for_each : (call : ForEach) (result : Result MapAnswer NoMemory) (found : Option ForEach) → found ≡ for_each_at lists number → found ≡ Some call
+      → IfOk result (λ answer. EndsWith (in_turn lists.functions store (as_transform call)) (end_of answer.answer) answer.writes)
+      → IfOk result (λ answer. IfSome (for_each_at lists number) (λ x.
+      IsClear store (keeps_order x.policy) (transform_call lists.functions store (as_transform x))
+      → EndsAlongAll lists.functions store (as_transform x) (end_of answer.answer) answer.writes))
+  ordered_for_each call (Err fault) found is e h = h
+  ordered_for_each call (Ok answer) found is e h =
+      subst (λ o. IfSome o (λ x. IsClear store (keeps_order x.policy) (transform_call lists.functions store (as_transform x))
+      → EndsAlongAll lists.functions store (as_transform x) (end_of answer.answer) answer.writes)) (sym e ∙ is)
+      (λ clear. in_all_orders lists.functions store (as_transform call) (end_of answer.answer) answer.writes clear h)

@@ -1,7 +1,10 @@
 //! The four map calls of a program.
 
 ghost use Rattle.std.specs.Prelude.{◌≡◌, IfOk, IfSome, IsSome, length};
-ghost use Rattle.pts_eval.specs.Maps.{count_if_at, find_if_at, for_each_at, number_in, transform_at, truths_in, EndsWith, PermitsAnswer, WritesNumber};
+ghost use Rattle.pts_eval.specs.Maps.{count_if_at, find_if_at, for_each_at, number_in, transform_at, truths_in, EndsAlongAll, EndsWith, PermitsAnswer, WritesNumber};
+ghost use Rattle.pts_outcomes.specs.Calls.{keeps_order};
+ghost use Rattle.pts_outcomes.specs.Laws.{IsClear};
+ghost use Rattle.pts_outcomes.specs.MapCalls.{as_transform, transform_call};
 ghost use Rattle.pts_eval.specs.Runs.{start_store};
 ghost use Rattle.pts_store.specs.Laws.{SameShape};
 ghost use Rattle.pts_maps.specs.Answers.{end_of};
@@ -97,7 +100,8 @@ impl<V: View, G: Gate> Run<'_, V, G> {
     }
 }
 
-/// Runs a `for_each` ([alg.foreach]): each cell of its range becomes what its function gives for it. The view is only read.
+/// Runs a `for_each` ([alg.foreach]): each cell of its range becomes what its function gives for it. Where no two
+/// evaluations of the call conflict, each order that its policy allows ends so and writes the same. The view is only read.
 pub fn for_each<R: Threads + Sync, V: View + Sync, G: Gate>(
     _rt: &R,
     alloc: Global,
@@ -109,7 +113,8 @@ pub fn for_each<R: Threads + Sync, V: View + Sync, G: Gate>(
 ) -> Result<MapAnswer, NoMemory>
     requires form { IsSome (for_each_at program.now call) }
     requires arrays { SameShape (start_store program.now) (V.stands view.now) }
-    ensures { IfOk result (λ answer. IfSome (for_each_at program.now call) (λ x. PermitsAnswer pool.workers program.now.functions (V.stands view.now) (LoweredCall.ForEach x) (end_of answer.answer) answer.writes)) }
+    ensures permitted { IfOk result (λ answer. IfSome (for_each_at program.now call) (λ x. PermitsAnswer pool.workers program.now.functions (V.stands view.now) (LoweredCall.ForEach x) (end_of answer.answer) answer.writes)) }
+    ensures orders { IfOk result (λ answer. IfSome (for_each_at program.now call) (λ x. IsClear (V.stands view.now) (keeps_order x.policy) (transform_call program.now.functions (V.stands view.now) (as_transform x)) → EndsAlongAll program.now.functions (V.stands view.now) (as_transform x) (end_of answer.answer) answer.writes)) }
 {
     let Some(own) = find_for_each(program, call) else {
         unreachable!()
@@ -132,7 +137,8 @@ pub fn for_each<R: Threads + Sync, V: View + Sync, G: Gate>(
 }
 
 /// Runs a `transform` ([alg.transform]): the cells of its target become what its function gives for the elements of a range, or of two
-/// ranges, at each position. The view is only read.
+/// ranges, at each position. Where no two evaluations of the call conflict, each order that its policy allows ends so and writes the same.
+/// The view is only read.
 pub fn transform<R: Threads + Sync, V: View + Sync, G: Gate>(
     _rt: &R,
     alloc: Global,
@@ -144,7 +150,8 @@ pub fn transform<R: Threads + Sync, V: View + Sync, G: Gate>(
 ) -> Result<MapAnswer, NoMemory>
     requires form { IsSome (transform_at program.now call) }
     requires arrays { SameShape (start_store program.now) (V.stands view.now) }
-    ensures { IfOk result (λ answer. IfSome (transform_at program.now call) (λ x. PermitsAnswer pool.workers program.now.functions (V.stands view.now) (LoweredCall.Transform x) (end_of answer.answer) answer.writes)) }
+    ensures permitted { IfOk result (λ answer. IfSome (transform_at program.now call) (λ x. PermitsAnswer pool.workers program.now.functions (V.stands view.now) (LoweredCall.Transform x) (end_of answer.answer) answer.writes)) }
+    ensures orders { IfOk result (λ answer. IfSome (transform_at program.now call) (λ x. IsClear (V.stands view.now) (keeps_order x.policy) (transform_call program.now.functions (V.stands view.now) x) → EndsAlongAll program.now.functions (V.stands view.now) x (end_of answer.answer) answer.writes)) }
 {
     let Some(own) = find_transform(program, call) else {
         unreachable!()
