@@ -1,1 +1,2 @@
+pub mod MapShowing
 pub mod Showing

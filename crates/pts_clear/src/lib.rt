@@ -4,4 +4,4 @@
 
 mod laws;
 
-pub use laws::calls_are_clear;
+pub use laws::{calls_are_clear, map_calls_are_shown};
