@@ -69,10 +69,11 @@ module _ (store : Store) (cells : WrittenCells) (c : Cell) (v : Value) (old : Ar
         ∙ sym (others cells c (record { array = a; index = i }) v (λ e. other (ap (λ (d : Cell). d.array) (sym e)) (ap (λ (d : Cell). d.index) (sym e))))
 
     pub value_is_written : AreWritten (with_value cells c v) after
-    value_is_written = record { cell = λ a i.
-      ⊎_elim
-      (λ e. ⊎_elim (λ f. at_cell a i e f) (λ f. at_other a i (λ _ g. f g)) (cases_eq i c.index))
-      (λ e. at_other a i (λ g _. e g)) (cases_eq a c.array);
+    value_is_written = record {
+      cell = λ a i.
+          ⊎_elim
+          (λ e. ⊎_elim (λ f. at_cell a i e f) (λ f. at_other a i (λ _ g. f g)) (cases_eq i c.index))
+          (λ e. at_other a i (λ g _. e g)) (cases_eq a c.array);
     }
 
 -- ---- what is seen

@@ -1,5 +1,5 @@
 -- A transform as it runs over an overlay.
-use Rattle.std.proofs.Common.{◌≡◌, ℕ, ◌+◌, ◌<◌, ◌≤◌, Option, Some, None, List, [], ◌∷◌, length, ap, sym, ◌∙◌, subst, arith}
+use Rattle.std.proofs.Common.{refl, ◌≡◌, ℕ, ◌+◌, ◌<◌, ◌≤◌, Option, Some, None, List, [], ◌∷◌, length, ap, sym, ◌∙◌, subst, arith, zero, suc, slice_get}
 use Rattle.std.specs.Prelude.{IfOk, IfSome, Result, Ok, Err}
 use Rattle.std.specs.Option.{option_and_then, option_map}
 use Rattle.pts_types.specs.declared.value.NoMemory.{NoMemory}
@@ -9,7 +9,16 @@ use Rattle.pts_lowering.specs.declared.forms.CellRange.{CellRange}
 use Rattle.pts_lowering.specs.declared.forms.ForEach.{ForEach}
 use Rattle.pts_lowering.specs.declared.forms.LoweredCall.TheVariants as lowered
 use Rattle.pts_lowering.specs.declared.forms.Transform.{Transform}
+use Rattle.pts_lowering.specs.declared.forms.LoweredCall.{LoweredCall}
+use Rattle.pts_program.specs.declared.info.ArrayInfo.{ArrayInfo}
 use Rattle.pts_program.specs.declared.lists.Lists.{Lists}
+use Rattle.pts_program.specs.Lists.{IsProgram}
+use Rattle.pts_program.specs.Ranges.{length_at}
+use Rattle.pts_conflict.specs.Conflicts as conflicts
+use Rattle.pts_store.specs.Laws.{SameShape}
+use Rattle.pts_clear.specs.Showing.{HasArrays}
+use Rattle.pts_clear.proofs.ClearCalls.{calls_are_clear}
+use Rattle.pts_clear.proofs.MapsShown.{for_each_is_shown, transform_is_shown}
 use Rattle.pts_store.specs.Overlays.{Layer}
 use Rattle.pts_store.specs.Steps.{AreOf}
 use Rattle.pts_store.specs.Stores.{Store, cells_in, put_cell}
@@ -23,8 +32,8 @@ use Rattle.pts_outcomes.proofs.MapRuns.{turn_goes, turn_throws}
 use Rattle.pts_outcomes.specs.Laws.{IsClear}
 use Rattle.pts_outcomes.proofs.Orders.{index_order_is_allowed, orders_agree}
 use Rattle.pts_outcomes.proofs.Turns.{begun, ended}
-use Rattle.pts_eval.specs.Maps.{for_each_at, transform_at, EndsAlongAll, EndsWith, MapEnd, PermitsAnswer, PermitsTransform, Terminated}
-use Rattle.pts_eval.specs.Runs.{range_in}
+use Rattle.pts_eval.specs.Maps.{for_each_at, for_each_in, transform_at, transform_in, EndsAlongAll, EndsWith, MapEnd, PermitsAnswer, PermitsTransform, Terminated}
+use Rattle.pts_eval.specs.Runs.{range_in, start_cells, start_store}
 use Rattle.pts_eval.specs.Sums.{given_by}
 use Rattle.pts_calls.proofs.RangeCells.{length-range}
 use Rattle.pts_maps.specs.declared.answers.MapAnswer.{MapAnswer}
@@ -131,6 +140,32 @@ in_order functions store call end writes h = record {
   ends = h;
 }
 
+-- the arrays of a program, as it begins
+start_length : (arrays : List ArrayInfo) (n : ℕ) → length (cells_in (start_cells arrays) n) ≡ length_at arrays n
+start_length [] n = refl
+start_length (a ∷ as') zero = refl
+start_length (a ∷ as') (suc n) = start_length as' n
+
+a_transform : (o : Option LoweredCall) (x : Transform) → option_and_then transform_in o ≡ Some x → o ≡ Some (lowered.Transform x)
+a_transform None x e = absurd cc
+a_transform (Some (lowered.Transform y)) x e = ap (λ (z : Transform). Some (lowered.Transform z)) (let same : y ≡ x = cc in same)
+a_transform (Some (lowered.ForEach y)) x e = absurd cc
+a_transform (Some (lowered.FindIf y)) x e = absurd cc
+a_transform (Some (lowered.CountIf y)) x e = absurd cc
+a_transform (Some (lowered.Reduce y)) x e = absurd cc
+a_transform (Some (lowered.Scan y)) x e = absurd cc
+a_transform (Some (lowered.Loop y)) x e = absurd cc
+
+a_for_each : (o : Option LoweredCall) (x : ForEach) → option_and_then for_each_in o ≡ Some x → o ≡ Some (lowered.ForEach x)
+a_for_each None x e = absurd cc
+a_for_each (Some (lowered.ForEach y)) x e = ap (λ (z : ForEach). Some (lowered.ForEach z)) (let same : y ≡ x = cc in same)
+a_for_each (Some (lowered.Transform y)) x e = absurd cc
+a_for_each (Some (lowered.FindIf y)) x e = absurd cc
+a_for_each (Some (lowered.CountIf y)) x e = absurd cc
+a_for_each (Some (lowered.Reduce y)) x e = absurd cc
+a_for_each (Some (lowered.Scan y)) x e = absurd cc
+a_for_each (Some (lowered.Loop y)) x e = absurd cc
+
 -- without conflict, all orders end as index order
 in_all_orders : (functions : List FunctionInfo) (store : Store) (call : Transform) (end : MapEnd) (writes : Writes)
     → IsClear store (keeps_order call.policy) (transform_call functions store call) → EndsWith (in_turn functions store call) end writes
@@ -156,23 +191,29 @@ module _ (workers : ℕ) (lists : Lists) (number : ℕ) (store : Store) where
       subst (λ o. IfSome o (λ x. PermitsAnswer workers lists.functions store (lowered.ForEach x) (end_of answer.answer) answer.writes)) (sym e ∙ is)
       (in_order lists.functions store (as_transform call) (end_of answer.answer) answer.writes h)
 
-  pub ordered_transform : (call : Transform) (result : Result MapAnswer NoMemory) (found : Option Transform) → found ≡ transform_at lists number → found ≡ Some call
-      → IfOk result (λ answer. EndsWith (in_turn lists.functions store call) (end_of answer.answer) answer.writes)
-      → IfOk result (λ answer. IfSome (transform_at lists number) (λ x.
-      IsClear store (keeps_order x.policy) (transform_call lists.functions store x) → EndsAlongAll lists.functions store x (end_of answer.answer) answer.writes))
-  ordered_transform call (Err fault) found is e h = h
-  ordered_transform call (Ok answer) found is e h =
-      subst (λ o. IfSome o (λ x. IsClear store (keeps_order x.policy) (transform_call lists.functions store x)
-      → EndsAlongAll lists.functions store x (end_of answer.answer) answer.writes)) (sym e ∙ is)
-      (λ clear. in_all_orders lists.functions store call (end_of answer.answer) answer.writes clear h)
+  -- ---- orders
 
-  pub ordered_for_each : (call : ForEach) (result : Result MapAnswer NoMemory) (found : Option ForEach) → found ≡ for_each_at lists number → found ≡ Some call
-      → IfOk result (λ answer. EndsWith (in_turn lists.functions store (as_transform call)) (end_of answer.answer) answer.writes)
-      → IfOk result (λ answer. IfSome (for_each_at lists number) (λ x.
-      IsClear store (keeps_order x.policy) (transform_call lists.functions store (as_transform x))
-      → EndsAlongAll lists.functions store (as_transform x) (end_of answer.answer) answer.writes))
-  ordered_for_each call (Err fault) found is e h = h
-  ordered_for_each call (Ok answer) found is e h =
-      subst (λ o. IfSome o (λ x. IsClear store (keeps_order x.policy) (transform_call lists.functions store (as_transform x))
-      → EndsAlongAll lists.functions store (as_transform x) (end_of answer.answer) answer.writes)) (sym e ∙ is)
-      (λ clear. in_all_orders lists.functions store (as_transform call) (end_of answer.answer) answer.writes clear h)
+  module _ (program : IsProgram lists) (shape : SameShape (start_store lists) store) where
+    arrays : HasArrays lists store
+    arrays = record { cells = λ a. shape.cells a ∙ start_length lists.arrays a }
+
+    pub ordered_transform : (call : Transform) (result : Result MapAnswer NoMemory) (found : Option Transform) → found ≡ transform_at lists number → found ≡ Some call
+        → IfOk result (λ answer. EndsWith (in_turn lists.functions store call) (end_of answer.answer) answer.writes)
+        → IfOk result (λ answer. IfSome (transform_at lists number) (λ x. conflicts.IsClear lists → EndsAlongAll lists.functions store x (end_of answer.answer) answer.writes))
+    ordered_transform call (Err fault) found is e h = h
+    ordered_transform call (Ok answer) found is e h =
+        subst (λ o. IfSome o (λ x. conflicts.IsClear lists → EndsAlongAll lists.functions store x (end_of answer.answer) answer.writes)) (sym e ∙ is)
+        (λ clear. in_all_orders lists.functions store call (end_of answer.answer) answer.writes
+        (calls_are_clear lists store number call.policy (transform_call lists.functions store call) clear arrays
+        (transform_is_shown lists store number call program (a_transform (slice_get lists.lowered_calls number) call (sym is ∙ e)))) h)
+
+    pub ordered_for_each : (call : ForEach) (result : Result MapAnswer NoMemory) (found : Option ForEach) → found ≡ for_each_at lists number → found ≡ Some call
+        → IfOk result (λ answer. EndsWith (in_turn lists.functions store (as_transform call)) (end_of answer.answer) answer.writes)
+        → IfOk result (λ answer. IfSome (for_each_at lists number) (λ x.
+        conflicts.IsClear lists → EndsAlongAll lists.functions store (as_transform x) (end_of answer.answer) answer.writes))
+    ordered_for_each call (Err fault) found is e h = h
+    ordered_for_each call (Ok answer) found is e h =
+        subst (λ o. IfSome o (λ x. conflicts.IsClear lists → EndsAlongAll lists.functions store (as_transform x) (end_of answer.answer) answer.writes)) (sym e ∙ is)
+        (λ clear. in_all_orders lists.functions store (as_transform call) (end_of answer.answer) answer.writes
+        (calls_are_clear lists store number call.policy (transform_call lists.functions store (as_transform call)) clear arrays
+        (for_each_is_shown lists store number call program (a_for_each (slice_get lists.lowered_calls number) call (sym is ∙ e)))) h)

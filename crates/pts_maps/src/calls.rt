@@ -2,9 +2,8 @@
 
 ghost use Rattle.std.specs.Prelude.{◌≡◌, IfOk, IfSome, IsSome, length};
 ghost use Rattle.pts_eval.specs.Maps.{count_if_at, find_if_at, for_each_at, number_in, transform_at, truths_in, EndsAlongAll, EndsWith, PermitsAnswer, WritesNumber};
-ghost use Rattle.pts_outcomes.specs.Calls.{keeps_order};
-ghost use Rattle.pts_outcomes.specs.Laws.{IsClear};
-ghost use Rattle.pts_outcomes.specs.MapCalls.{as_transform, transform_call};
+ghost use Rattle.pts_conflict.specs.Conflicts.{IsClear};
+ghost use Rattle.pts_outcomes.specs.MapCalls.{as_transform};
 ghost use Rattle.pts_eval.specs.Runs.{start_store};
 ghost use Rattle.pts_store.specs.Laws.{SameShape};
 ghost use Rattle.pts_maps.specs.Answers.{end_of};
@@ -100,8 +99,8 @@ impl<V: View, G: Gate> Run<'_, V, G> {
     }
 }
 
-/// Runs a `for_each` ([alg.foreach]): each cell of its range becomes what its function gives for it. Where no two
-/// evaluations of the call conflict, each order that its policy allows ends so and writes the same. The view is only read.
+/// Runs a `for_each` ([alg.foreach]): each cell of its range becomes what its function gives for it. In a program
+/// without conflict each order that the policy of the call allows ends so and writes the same. The view is only read.
 pub fn for_each<R: Threads + Sync, V: View + Sync, G: Gate>(
     _rt: &R,
     alloc: Global,
@@ -114,8 +113,9 @@ pub fn for_each<R: Threads + Sync, V: View + Sync, G: Gate>(
     requires form { IsSome (for_each_at program.now call) }
     requires arrays { SameShape (start_store program.now) (V.stands view.now) }
     ensures permitted { IfOk result (λ answer. IfSome (for_each_at program.now call) (λ x. PermitsAnswer pool.workers program.now.functions (V.stands view.now) (LoweredCall.ForEach x) (end_of answer.answer) answer.writes)) }
-    ensures orders { IfOk result (λ answer. IfSome (for_each_at program.now call) (λ x. IsClear (V.stands view.now) (keeps_order x.policy) (transform_call program.now.functions (V.stands view.now) (as_transform x)) → EndsAlongAll program.now.functions (V.stands view.now) (as_transform x) (end_of answer.answer) answer.writes)) }
+    ensures orders { IfOk result (λ answer. IfSome (for_each_at program.now call) (λ x. IsClear program.now → EndsAlongAll program.now.functions (V.stands view.now) (as_transform x) (end_of answer.answer) answer.writes)) }
 {
+    program.keeps_its_promises();
     let Some(own) = find_for_each(program, call) else {
         unreachable!()
     };
@@ -137,7 +137,7 @@ pub fn for_each<R: Threads + Sync, V: View + Sync, G: Gate>(
 }
 
 /// Runs a `transform` ([alg.transform]): the cells of its target become what its function gives for the elements of a range, or of two
-/// ranges, at each position. Where no two evaluations of the call conflict, each order that its policy allows ends so and writes the same.
+/// ranges, at each position. In a program without conflict each order that the policy of the call allows ends so and writes the same.
 /// The view is only read.
 pub fn transform<R: Threads + Sync, V: View + Sync, G: Gate>(
     _rt: &R,
@@ -151,8 +151,9 @@ pub fn transform<R: Threads + Sync, V: View + Sync, G: Gate>(
     requires form { IsSome (transform_at program.now call) }
     requires arrays { SameShape (start_store program.now) (V.stands view.now) }
     ensures permitted { IfOk result (λ answer. IfSome (transform_at program.now call) (λ x. PermitsAnswer pool.workers program.now.functions (V.stands view.now) (LoweredCall.Transform x) (end_of answer.answer) answer.writes)) }
-    ensures orders { IfOk result (λ answer. IfSome (transform_at program.now call) (λ x. IsClear (V.stands view.now) (keeps_order x.policy) (transform_call program.now.functions (V.stands view.now) x) → EndsAlongAll program.now.functions (V.stands view.now) x (end_of answer.answer) answer.writes)) }
+    ensures orders { IfOk result (λ answer. IfSome (transform_at program.now call) (λ x. IsClear program.now → EndsAlongAll program.now.functions (V.stands view.now) x (end_of answer.answer) answer.writes)) }
 {
+    program.keeps_its_promises();
     let Some(own) = find_transform(program, call) else {
         unreachable!()
     };

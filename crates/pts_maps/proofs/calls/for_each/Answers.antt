@@ -7,4 +7,4 @@ returns-clause-permitted g c =
 
 pub returns-clause-orders : goal.returns-clause-orders
 returns-clause-orders g c =
-    ordered_for_each c.args.pool.workers c.args.program.now c.args.call (g.V.View.stands c.args.view.now) c.in-Some.own c.transform.result c.find_for_each.result c.find_for_each.ensures c.in-Some.is c.transform.ensures
+    ordered_for_each c.args.pool.workers c.args.program.now c.args.call (g.V.View.stands c.args.view.now) c.keeps_its_promises.ensures c.requires.arrays c.in-Some.own c.transform.result c.find_for_each.result c.find_for_each.ensures c.in-Some.is c.transform.ensures
