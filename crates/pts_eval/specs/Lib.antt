@@ -1,4 +1,5 @@
 pub mod Expressions
+pub mod Maps
 pub mod Runs
 pub mod Sums
 pub mod Works

@@ -1,0 +1,4 @@
+pub mod ClearCalls
+pub mod MapLists
+pub mod MapPoints
+pub mod MapsShown

@@ -1,0 +1,2 @@
+pub mod MapShowing
+pub mod Showing

@@ -1,0 +1,10 @@
+use Rattle.pts_maps.proofs.TransformRuns.{ordered_for_each, permitted_for_each}
+use Rattle.pts_maps.proofs.calls.for_each.Goals as goal
+
+pub returns-clause-permitted : goal.returns-clause-permitted
+returns-clause-permitted g c =
+    permitted_for_each c.args.pool.workers c.args.program.now c.args.call (g.V.View.stands c.args.view.now) c.in-Some.own c.transform.result c.find_for_each.result c.find_for_each.ensures c.in-Some.is c.transform.ensures
+
+pub returns-clause-orders : goal.returns-clause-orders
+returns-clause-orders g c =
+    ordered_for_each c.args.pool.workers c.args.program.now c.args.call (g.V.View.stands c.args.view.now) c.keeps_its_promises.ensures c.requires.arrays c.in-Some.own c.transform.result c.find_for_each.result c.find_for_each.ensures c.in-Some.is c.transform.ensures

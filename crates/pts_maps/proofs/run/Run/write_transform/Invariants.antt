@@ -1,0 +1,10 @@
+use Rattle.std.proofs.Common.{◌-◌, ◌≤◌}
+use Rattle.pts_maps.specs.Transforms.{IsAt}
+use Rattle.pts_maps.proofs.run.Run.write_transform.Given as goal
+
+abbrev pub invariant-loop-low : goal.invariant-loop-low
+invariant-loop-low g l =
+    IsAt l.self.program.now.functions (g.V.View.stands l.self.view.now) l.call l.low l.layer × (l.low ≤ l.count) × (l.chunk ≤ l.low)
+
+abbrev pub decreases-loop-low : goal.decreases-loop-low
+decreases-loop-low g l = l.count - l.low

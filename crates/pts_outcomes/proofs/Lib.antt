@@ -1,0 +1,5 @@
+pub mod Orders
+pub mod Touched
+pub mod Turns
+pub mod MapTurns
+pub mod MapRuns
