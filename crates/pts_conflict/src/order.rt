@@ -1,6 +1,6 @@
 //! The order of evaluations across positions.
 
-ghost use Rattle.std.specs.Prelude.{◌≡◌, ℕ};
+ghost use Rattle.std.specs.Prelude.{◌≡◌, ℕ, drop};
 ghost use Rattle.pts_points.specs.Standings.{Ascends};
 ghost use Rattle.pts_conflict.specs.Conflicts as conflicts;
 ghost use Rattle.pts_conflict.specs.Order as spec;
@@ -9,6 +9,22 @@ use crate::points::is_live_out;
 use pts_points::{Branch, PointInfo};
 use pts_types::Policy;
 
+// How many tests the lists begin with in common, which decide nothing.
+#[tactic(auto, using(crate::proofs::Opposites::step_both))]
+fn common_tests(first: &[Branch], second: &[Branch]) -> usize
+    requires first { (n : ℕ) × Ascends 0 first.now n }
+    requires second { (n : ℕ) × Ascends 0 second.now n }
+    ensures { spec.are_opposite (drop result first.now) (drop result second.now) ≡ spec.are_opposite first.now second.now }
+{
+    let few = first.len().min(second.len());
+    for i in 0..few {
+        if first[i].test != second[i].test || first[i].taken != second[i].taken {
+            return i;
+        }
+    }
+    few
+}
+
 /// Whether two points stand in opposite branches of one `if`, by one pass over both lists of tests, which ascend.
 #[tactic(auto, using(crate::proofs::Opposites::step_first, crate::proofs::Opposites::step_second, crate::proofs::Opposites::step_both, crate::proofs::Opposites::stops, crate::proofs::Opposites::ends_first, crate::proofs::Opposites::ends_second))]
 pub fn are_opposite(first: &[Branch], second: &[Branch]) -> bool
@@ -16,8 +32,8 @@ pub fn are_opposite(first: &[Branch], second: &[Branch]) -> bool
     requires second { (n : ℕ) × Ascends 0 second.now n }
     ensures { result ≡ spec.are_opposite first.now second.now }
 {
-    let mut i = 0;
-    let mut j = 0;
+    let mut i = common_tests(first, second);
+    let mut j = i;
     while i < first.len() && j < second.len() {
         if first[i].test < second[j].test {
             i += 1;

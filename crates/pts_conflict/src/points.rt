@@ -109,16 +109,23 @@ pub fn least_in_call(
     requires second { IsFit b.now }
     ensures { FindsFirst (PairInCall number call.now is_loop a.now b.now) rank_of result }
 {
-    if are_clauses(a, b) || are_ordered(call.policy, is_loop, a, b) {
+    if are_clauses(a, b) {
         return None;
     }
     let first = line_in_call(call, a.form, a.line);
     let second = line_in_call(call, b.form, b.line);
     match least_pair(true, a, first, b, second) {
-        Some(pair) => Some(Found {
-            call: Some(number),
-            pair,
-        }),
+        Some(pair) => {
+            // Last, since the points may stand under many tests.
+            if are_ordered(call.policy, is_loop, a, b) {
+                None
+            } else {
+                Some(Found {
+                    call: Some(number),
+                    pair,
+                })
+            }
+        }
         None => None,
     }
 }
