@@ -1,2 +1,1 @@
-pub mod IntoCells
-pub mod RangeCells
+mod Results

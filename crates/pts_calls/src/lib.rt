@@ -1,11 +1,9 @@
-//! What calls have in common as they run: `ranges` has how many cells a range has, its elements and its chunks, `functions` what a
-//! function gives, and `into` the cell that an answer is put into.
+//! One call of a program, whatever its form: it is run on a view, and gives its result and its writes, or is terminated.
+//! `answers` has what is given back, `calls` brings each form to the crate that runs it.
 #![tactic(auto)]
 
-mod functions;
-mod into;
-mod ranges;
+mod answers;
+mod calls;
 
-pub use functions::call_function;
-pub use into::write_into;
-pub use ranges::{count_cells, read_element};
+pub use answers::CallAnswer;
+pub use calls::{built_call, run_call};

@@ -1,6 +1,6 @@
 -- The first element that passes a test, along a list.
 use Rattle.std.proofs.Common.{◌≡◌, ℕ, zero, suc, ◌+◌, ◌<◌, ◌≤◌, Bool, true, false, Option, Some, None, List, [], ◌∷◌, length, take, get_or, refl, ap, ◌∙◌, arith}
-use Rattle.std.specs.Prelude.{cond, find, is_none, is_some, not}
+use Rattle.std.specs.Prelude.{cond, find}
 
 -- what comes of the test of one element
 passed : {A : Type 0} (b : Bool) (x : A) (rest : Option A) → b ≡ true → cond b (Some x) rest ≡ Some x
@@ -39,10 +39,3 @@ find_none test (x ∷ xs) zero none past = absurd (omega (arith, past))
 find_none test (x ∷ xs) (suc i) none past =
     let before = none_before (test x) x (find test (take i xs)) none in
     failed (test x) x (find test xs) before.0 ∙ find_none test xs i before.1 (omega (arith, past))
-
--- a test of what is there, and of what is not
-pub none_by_some : {A : Type 0} (o : Option A) (b : Bool) → is_some o ≡ not b → is_none o ≡ b
-none_by_some None true h = refl
-none_by_some None false h = absurd (cc)
-none_by_some (Some x) true h = absurd (cc)
-none_by_some (Some x) false h = refl

@@ -1,6 +1,7 @@
 -- Permitted answers of the map calls.
 use Rattle.std.specs.Prelude.{◌≡◌, ◌≢◌, ℕ, ◌<◌, Bool, true, false, ◌||◌, nat_le, option_and_then, option_map, Option, Some, None, List, [], ◌∷◌, length, map, count_by, slice_get}
 use Rattle.pts_types.specs.declared.operation.Policy.{Policy}
+use Rattle.pts_types.specs.declared.operation.Policy.TheVariants as policies
 use Rattle.pts_types.specs.declared.value.Value.{Value}
 use Rattle.pts_types.specs.declared.value.Value.TheVariants as values
 use Rattle.pts_code.specs.declared.function.FunctionInfo.{FunctionInfo}
@@ -18,9 +19,8 @@ use Rattle.pts_orders.specs.Evaluations.{Evaluation}
 use Rattle.pts_cells.specs.WrittenCells.{AreWritten, WrittenCells}
 use Rattle.pts_outcomes.specs.Calls.{IsOrder, keeps_order, written_along}
 use Rattle.pts_outcomes.specs.MapCalls.{as_transform, transform_call}
-use Rattle.pts_eval.specs.Runs.{range_in}
+use Rattle.pts_eval.specs.Cells.{range_in}
 use Rattle.pts_eval.specs.Sums.{given_by, steps_into}
-use Rattle.pts_eval.specs.Works.{is_seq}
 
 -- what a map call answers: that it is done, a position or the end, a number of positions, or that its function threw
 pub data MapEnd : Type 0 where
@@ -68,6 +68,11 @@ PermitsPlace exact truths (Index (Some i)) = (slice_get truths i ≡ Some (Some 
 PermitsPlace exact truths (Index None) = NoneBefore truths (length truths) (Some true) × NoneBefore truths (length truths) None
 PermitsPlace exact truths Terminated = (p : ℕ) × (slice_get truths p ≡ Some None) × (exact ≡ true → NoneBefore truths p (Some true))
 PermitsPlace exact truths end = ⊥
+
+-- the policy that runs in order
+abbrev pub is_seq : Policy → Bool
+is_seq policies.Seq = true
+is_seq policy = false
 
 -- a search is exact where it runs in order, and with one worker
 abbrev pub is_exact : Policy → ℕ → Bool

@@ -26,7 +26,7 @@ use Rattle.pts_groupings.specs.Laws.{given}
 use Rattle.pts_groupings.specs.Scans as scans
 use Rattle.pts_groupings.specs.Scans.{place, places_of}
 use Rattle.pts_groupings.specs.Sums.{sum_of}
-use Rattle.pts_eval.specs.Runs.{range_in}
+use Rattle.pts_eval.specs.Cells.{range_in}
 
 -- ---- operations and items
 

@@ -1,7 +1,7 @@
 //! What the arrays of a program hold before it runs.
 
 ghost use Rattle.std.specs.Prelude.{◌≡◌, IfOk};
-ghost use Rattle.pts_eval.specs.Runs as spec;
+ghost use Rattle.pts_eval.specs.Cells as spec;
 
 use pts_program::Program;
 use pts_store::Store;

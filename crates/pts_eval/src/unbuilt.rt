@@ -1,21 +1,41 @@
 //! The first statement whose form is not built.
 
 ghost use Rattle.std.specs.Prelude.{◌≡◌};
-ghost use Rattle.pts_eval.specs.Works as spec;
+ghost use Rattle.pts_eval.specs.Built as spec;
 
-use crate::work::work_of;
+use pts_lowering::LoweredCall;
 use pts_program::{Program, StatementInfo};
 
-/// The item of the first statement that is not built; None where all of them are.
+/// The item of the first statement that is not built; None where all of them are. All are but loops
+/// and task blocks.
 pub fn later(program: &Program) -> Option<u32>
     ensures { result ≡ spec.first_later program.now }
 {
     for statement in program.statements() {
-        if work_of(program, *statement).is_none() {
+        if is_later(program, *statement) {
             return Some(item_of(program, *statement));
         }
     }
     None
+}
+
+fn is_later(program: &Program, statement: StatementInfo) -> bool
+    ensures { result ≡ spec.is_later program.now statement }
+{
+    match statement {
+        StatementInfo::Print(_) => false,
+        StatementInfo::Block(_) => true,
+        StatementInfo::Call(call) => match program.lowered_calls().get(call as usize) {
+            Some(call) => !is_built(call),
+            None => true,
+        },
+    }
+}
+
+fn is_built(call: &LoweredCall) -> bool
+    ensures { result ≡ spec.is_built call.now }
+{
+    !matches!(call, LoweredCall::Loop(_))
 }
 
 fn item_of(program: &Program, statement: StatementInfo) -> u32

@@ -12,7 +12,7 @@ use Rattle.pts_code.specs.Outcomes.{is_true}
 use Rattle.pts_lowering.specs.declared.forms.Search.{Search}
 use Rattle.pts_store.specs.Stores.{Store}
 use Rattle.pts_eval.specs.Maps.{MapEnd, Index, Count, Terminated, Done, is_match, truths_in, NoneBefore, PermitsCount, PermitsPlace}
-use Rattle.pts_eval.specs.Runs.{range_in}
+use Rattle.pts_eval.specs.Cells.{range_in}
 use Rattle.pts_eval.specs.Sums.{given_by}
 use Rattle.pts_maps.specs.Searches.{added, AreCounted, IsQuiet}
 

@@ -33,9 +33,9 @@ use Rattle.pts_outcomes.specs.Laws.{IsClear}
 use Rattle.pts_outcomes.proofs.Orders.{index_order_is_allowed, orders_agree}
 use Rattle.pts_outcomes.proofs.Turns.{begun, ended}
 use Rattle.pts_eval.specs.Maps.{for_each_at, for_each_in, transform_at, transform_in, EndsAlongAll, EndsWith, MapEnd, PermitsAnswer, PermitsTransform, Terminated}
-use Rattle.pts_eval.specs.Runs.{range_in, start_cells, start_store}
+use Rattle.pts_eval.specs.Cells.{range_in, start_cells, start_store}
 use Rattle.pts_eval.specs.Sums.{given_by}
-use Rattle.pts_calls.proofs.RangeCells.{length-range}
+use Rattle.pts_elements.proofs.RangeCells.{length-range}
 use Rattle.pts_maps.specs.declared.answers.MapAnswer.{MapAnswer}
 use Rattle.pts_maps.specs.Answers.{end_of}
 use Rattle.pts_maps.specs.Transforms.{AreAll, IsAt, in_turn}
@@ -193,27 +193,27 @@ module _ (workers : ℕ) (lists : Lists) (number : ℕ) (store : Store) where
 
   -- ---- orders
 
-  module _ (program : IsProgram lists) (shape : SameShape (start_store lists) store) where
+  module _ (program : IsProgram lists) (shape : SameShape (start_store lists) store) (clear : conflicts.IsClear lists) where
     arrays : HasArrays lists store
     arrays = record { cells = λ a. shape.cells a ∙ start_length lists.arrays a }
 
     pub ordered_transform : (call : Transform) (result : Result MapAnswer NoMemory) (found : Option Transform) → found ≡ transform_at lists number → found ≡ Some call
         → IfOk result (λ answer. EndsWith (in_turn lists.functions store call) (end_of answer.answer) answer.writes)
-        → IfOk result (λ answer. IfSome (transform_at lists number) (λ x. conflicts.IsClear lists → EndsAlongAll lists.functions store x (end_of answer.answer) answer.writes))
+        → IfOk result (λ answer. IfSome (transform_at lists number) (λ x. EndsAlongAll lists.functions store x (end_of answer.answer) answer.writes))
     ordered_transform call (Err fault) found is e h = h
     ordered_transform call (Ok answer) found is e h =
-        subst (λ o. IfSome o (λ x. conflicts.IsClear lists → EndsAlongAll lists.functions store x (end_of answer.answer) answer.writes)) (sym e ∙ is)
-        (λ clear. in_all_orders lists.functions store call (end_of answer.answer) answer.writes
+        subst (λ o. IfSome o (λ x. EndsAlongAll lists.functions store x (end_of answer.answer) answer.writes)) (sym e ∙ is)
+        (in_all_orders lists.functions store call (end_of answer.answer) answer.writes
         (calls_are_clear lists store number call.policy (transform_call lists.functions store call) clear arrays
         (transform_is_shown lists store number call program (a_transform (slice_get lists.lowered_calls number) call (sym is ∙ e)))) h)
 
     pub ordered_for_each : (call : ForEach) (result : Result MapAnswer NoMemory) (found : Option ForEach) → found ≡ for_each_at lists number → found ≡ Some call
         → IfOk result (λ answer. EndsWith (in_turn lists.functions store (as_transform call)) (end_of answer.answer) answer.writes)
         → IfOk result (λ answer. IfSome (for_each_at lists number) (λ x.
-        conflicts.IsClear lists → EndsAlongAll lists.functions store (as_transform x) (end_of answer.answer) answer.writes))
+        EndsAlongAll lists.functions store (as_transform x) (end_of answer.answer) answer.writes))
     ordered_for_each call (Err fault) found is e h = h
     ordered_for_each call (Ok answer) found is e h =
-        subst (λ o. IfSome o (λ x. conflicts.IsClear lists → EndsAlongAll lists.functions store (as_transform x) (end_of answer.answer) answer.writes)) (sym e ∙ is)
-        (λ clear. in_all_orders lists.functions store (as_transform call) (end_of answer.answer) answer.writes
+        subst (λ o. IfSome o (λ x. EndsAlongAll lists.functions store (as_transform x) (end_of answer.answer) answer.writes)) (sym e ∙ is)
+        (in_all_orders lists.functions store (as_transform call) (end_of answer.answer) answer.writes
         (calls_are_clear lists store number call.policy (transform_call lists.functions store (as_transform call)) clear arrays
         (for_each_is_shown lists store number call program (a_for_each (slice_get lists.lowered_calls number) call (sym is ∙ e)))) h)

@@ -2,9 +2,8 @@
 
 ghost use Rattle.std.specs.Prelude.{◌≡◌, IfOk, IfSome, IsSome, length};
 ghost use Rattle.pts_eval.specs.Maps.{count_if_at, find_if_at, for_each_at, number_in, transform_at, truths_in, EndsAlongAll, EndsWith, PermitsAnswer, WritesNumber};
-ghost use Rattle.pts_conflict.specs.Conflicts.{IsClear};
 ghost use Rattle.pts_outcomes.specs.MapCalls.{as_transform};
-ghost use Rattle.pts_eval.specs.Runs.{start_store};
+ghost use Rattle.pts_eval.specs.Cells.{start_store};
 ghost use Rattle.pts_store.specs.Laws.{SameShape};
 ghost use Rattle.pts_maps.specs.Answers.{end_of};
 ghost use Rattle.pts_maps.specs.Transforms.{in_turn};
@@ -12,7 +11,8 @@ ghost use Rattle.pts_maps.specs.Transforms.{in_turn};
 use crate::answers::{Answer, MapAnswer};
 use crate::run::Run;
 use pts_boards::{Gate, Pool};
-use pts_calls::{count_cells, write_into};
+use pts_conflict::Cleared;
+use pts_elements::{count_cells, write_into};
 use pts_lowering::{ForEach, LoweredCall, Search, Transform};
 use pts_program::Program;
 use pts_store::{View, Writes};
@@ -99,22 +99,23 @@ impl<V: View, G: Gate> Run<'_, V, G> {
     }
 }
 
-/// Runs a `for_each` ([alg.foreach]): each cell of its range becomes what its function gives for it. In a program
-/// without conflict each order that the policy of the call allows ends so and writes the same. The view is only read.
+/// Runs a `for_each` ([alg.foreach]): each cell of its range becomes what its function gives for it. Each order
+/// that the policy of the call allows ends so and writes the same. The view is only read.
 pub fn for_each<R: Threads + Sync, V: View + Sync, G: Gate>(
     _rt: &R,
     alloc: Global,
     gate: &G,
     pool: Pool,
-    program: &Program,
+    cleared: &Cleared,
     call: u32,
     view: &V,
 ) -> Result<MapAnswer, NoMemory>
-    requires form { IsSome (for_each_at program.now call) }
-    requires arrays { SameShape (start_store program.now) (V.stands view.now) }
-    ensures permitted { IfOk result (λ answer. IfSome (for_each_at program.now call) (λ x. PermitsAnswer pool.workers program.now.functions (V.stands view.now) (LoweredCall.ForEach x) (end_of answer.answer) answer.writes)) }
-    ensures orders { IfOk result (λ answer. IfSome (for_each_at program.now call) (λ x. IsClear program.now → EndsAlongAll program.now.functions (V.stands view.now) (as_transform x) (end_of answer.answer) answer.writes)) }
+    requires form { IsSome (for_each_at cleared.now call) }
+    requires arrays { SameShape (start_store cleared.now) (V.stands view.now) }
+    ensures permitted { IfOk result (λ answer. IfSome (for_each_at cleared.now call) (λ x. PermitsAnswer pool.workers cleared.now.functions (V.stands view.now) (LoweredCall.ForEach x) (end_of answer.answer) answer.writes)) }
+    ensures orders { IfOk result (λ answer. IfSome (for_each_at cleared.now call) (λ x. EndsAlongAll cleared.now.functions (V.stands view.now) (as_transform x) (end_of answer.answer) answer.writes)) }
 {
+    let program = cleared.program();
     program.keeps_its_promises();
     let Some(own) = find_for_each(program, call) else {
         unreachable!()
@@ -137,22 +138,23 @@ pub fn for_each<R: Threads + Sync, V: View + Sync, G: Gate>(
 }
 
 /// Runs a `transform` ([alg.transform]): the cells of its target become what its function gives for the elements of a range, or of two
-/// ranges, at each position. In a program without conflict each order that the policy of the call allows ends so and writes the same.
+/// ranges, at each position. Each order that the policy of the call allows ends so and writes the same.
 /// The view is only read.
 pub fn transform<R: Threads + Sync, V: View + Sync, G: Gate>(
     _rt: &R,
     alloc: Global,
     gate: &G,
     pool: Pool,
-    program: &Program,
+    cleared: &Cleared,
     call: u32,
     view: &V,
 ) -> Result<MapAnswer, NoMemory>
-    requires form { IsSome (transform_at program.now call) }
-    requires arrays { SameShape (start_store program.now) (V.stands view.now) }
-    ensures permitted { IfOk result (λ answer. IfSome (transform_at program.now call) (λ x. PermitsAnswer pool.workers program.now.functions (V.stands view.now) (LoweredCall.Transform x) (end_of answer.answer) answer.writes)) }
-    ensures orders { IfOk result (λ answer. IfSome (transform_at program.now call) (λ x. IsClear program.now → EndsAlongAll program.now.functions (V.stands view.now) x (end_of answer.answer) answer.writes)) }
+    requires form { IsSome (transform_at cleared.now call) }
+    requires arrays { SameShape (start_store cleared.now) (V.stands view.now) }
+    ensures permitted { IfOk result (λ answer. IfSome (transform_at cleared.now call) (λ x. PermitsAnswer pool.workers cleared.now.functions (V.stands view.now) (LoweredCall.Transform x) (end_of answer.answer) answer.writes)) }
+    ensures orders { IfOk result (λ answer. IfSome (transform_at cleared.now call) (λ x. EndsAlongAll cleared.now.functions (V.stands view.now) x (end_of answer.answer) answer.writes)) }
 {
+    let program = cleared.program();
     program.keeps_its_promises();
     let Some(own) = find_transform(program, call) else {
         unreachable!()
@@ -174,14 +176,15 @@ pub fn find_if<R: Threads + Sync, V: View + Sync, G: Gate>(
     alloc: Global,
     gate: &G,
     pool: Pool,
-    program: &Program,
+    cleared: &Cleared,
     call: u32,
     view: &V,
 ) -> Result<MapAnswer, NoMemory>
-    requires form { IsSome (find_if_at program.now call) }
-    requires arrays { SameShape (start_store program.now) (V.stands view.now) }
-    ensures { IfOk result (λ answer. IfSome (find_if_at program.now call) (λ x. PermitsAnswer pool.workers program.now.functions (V.stands view.now) (LoweredCall.FindIf x) (end_of answer.answer) answer.writes)) }
+    requires form { IsSome (find_if_at cleared.now call) }
+    requires arrays { SameShape (start_store cleared.now) (V.stands view.now) }
+    ensures { IfOk result (λ answer. IfSome (find_if_at cleared.now call) (λ x. PermitsAnswer pool.workers cleared.now.functions (V.stands view.now) (LoweredCall.FindIf x) (end_of answer.answer) answer.writes)) }
 {
+    let program = cleared.program();
     let Some(own) = find_find_if(program, call) else {
         unreachable!()
     };
@@ -202,14 +205,15 @@ pub fn count_if<R: Threads + Sync, V: View + Sync, G: Gate>(
     alloc: Global,
     gate: &G,
     pool: Pool,
-    program: &Program,
+    cleared: &Cleared,
     call: u32,
     view: &V,
 ) -> Result<MapAnswer, NoMemory>
-    requires form { IsSome (count_if_at program.now call) }
-    requires arrays { SameShape (start_store program.now) (V.stands view.now) }
-    ensures { IfOk result (λ answer. IfSome (count_if_at program.now call) (λ x. PermitsAnswer pool.workers program.now.functions (V.stands view.now) (LoweredCall.CountIf x) (end_of answer.answer) answer.writes)) }
+    requires form { IsSome (count_if_at cleared.now call) }
+    requires arrays { SameShape (start_store cleared.now) (V.stands view.now) }
+    ensures { IfOk result (λ answer. IfSome (count_if_at cleared.now call) (λ x. PermitsAnswer pool.workers cleared.now.functions (V.stands view.now) (LoweredCall.CountIf x) (end_of answer.answer) answer.writes)) }
 {
+    let program = cleared.program();
     let Some(own) = find_count_if(program, call) else {
         unreachable!()
     };

@@ -3,7 +3,7 @@
 ghost use Rattle.std.specs.Prelude.{◌≡◌, ◌<◌, ◌≤◌, true, Some, length, slice_get};
 ghost use Rattle.pts_eval.specs.Maps.{truths_in, PermitsCount, PermitsPlace};
 ghost use Rattle.pts_code.specs.Outcomes as spec;
-ghost use Rattle.pts_eval.specs.Runs.{start_store};
+ghost use Rattle.pts_eval.specs.Cells.{start_store};
 ghost use Rattle.pts_store.specs.Laws.{SameShape};
 ghost use Rattle.pts_maps.specs.Answers.{end_of};
 ghost use Rattle.pts_maps.specs.Searches.{added, AreCounted, IsCount, IsPlace, IsQuiet};
@@ -11,7 +11,7 @@ ghost use Rattle.pts_maps.specs.Searches.{added, AreCounted, IsCount, IsPlace, I
 use crate::answers::Answer;
 use crate::run::Run;
 use pts_boards::Gate;
-use pts_calls::{call_function, count_cells, read_element};
+use pts_elements::{call_function, count_cells, read_element};
 use pts_lowering::Search;
 use pts_store::View;
 use pts_types::Value;

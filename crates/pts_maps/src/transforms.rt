@@ -2,7 +2,7 @@
 //! position reads.
 
 ghost use Rattle.std.specs.Prelude.{◌≡◌, ◌<◌, ◌≤◌, Some, IfOk};
-ghost use Rattle.pts_eval.specs.Runs.{start_store};
+ghost use Rattle.pts_eval.specs.Cells.{start_store};
 ghost use Rattle.pts_outcomes.specs.MapCalls.{element, shared_positions, size_in, turned};
 ghost use Rattle.pts_store.specs.Laws.{SameShape};
 ghost use Rattle.pts_store.specs.Stores.{Store};
@@ -10,7 +10,7 @@ ghost use Rattle.pts_maps.specs.Transforms.{in_turn, AreAll, Goes, IsAt};
 
 use crate::run::Run;
 use pts_boards::Gate;
-use pts_calls::{call_function, count_cells};
+use pts_elements::{call_function, count_cells};
 use pts_lowering::{CellRange, Transform};
 use pts_program::Program;
 use pts_store::{Overlay, View, Writes};

@@ -1,15 +1,16 @@
 -- What a script is refused for, by the search for its conflicts.
-use Rattle.std.proofs.Common.{◌≡◌, Result, Ok, Err, IfOk, None, sym, ap, subst, ◌∙◌}
+use Rattle.std.proofs.Common.{◌≡◌, ℕ, Result, Ok, Err, IfOk, None, Some, sym, ap, subst, ◌∙◌}
 use Rattle.pts_tree.specs.declared.script.Script.{Script}
 use Rattle.pts_program.specs.declared.lists.Lists.{Lists}
 use Rattle.pts_program.specs.Faults.{IsSound}
 use Rattle.pts_program.specs.Lists.{lists_of}
 use Rattle.pts_conflict.specs.Conflicts.{IsClear}
-use Rattle.pts_eval.specs.Works.{first_later}
+use Rattle.pts_eval.specs.Built.{first_later}
 use Rattle.pts_run.specs.declared.accept.Rejection.{Rejection}
+use Rattle.pts_run.specs.declared.accept.Rejection.TheVariants as rejections
 use Rattle.pts_run.specs.declared.refusal.Refusal.{Refusal}
 use Rattle.pts_run.specs.declared.refusal.Refusal.TheVariants as refusals
-use Rattle.pts_run.specs.Acceptance.{IsAccepted, IsConflictOf, IsNamedConflict, Rejects, RejectsRun}
+use Rattle.pts_run.specs.Acceptance.{IsAccepted, IsConflictOf, IsNamedConflict, IsRunnable, Rejects, RejectsRun}
 
 module _ (script : Script) (lists : Lists) (sound : IsSound script) (made : lists ≡ lists_of script) where
   pub accepted : (r : Result Lists Rejection) → IfOk r (λ cleared. (cleared ≡ lists) × IsClear lists) → IfOk r (IsAccepted script)
@@ -29,3 +30,15 @@ module _ (script : Script) (lists : Lists) (sound : IsSound script) (made : list
   rejects_run (refusals.Syntax fault) h none = absurd h
   rejects_run (refusals.Build fault) h none = absurd h
   rejects_run (refusals.Later item) h none = absurd h
+
+-- a script whose first statement that is not built is this item
+pub later_rejects : {T : Type 0} (script : Script) (lists : Lists) (item : ℕ) (reason : Refusal) (r other : Result T Rejection) → r ≡ Err (rejections.Refused (refusals.Later item)) → other ≡ Err (rejections.Refused reason)
+    → IsSound script → lists ≡ lists_of script → first_later lists ≡ Some item → r ≡ other → RejectsRun script reason
+later_rejects script lists item reason r other is are sound made later e =
+    let same : refusals.Later item ≡ reason = cc in
+    subst (RejectsRun script) same (sound, sym (ap first_later made) ∙ later)
+
+-- one whose statements are all built
+pub runnable : (script : Script) (r : Result Lists Rejection) (lists : Lists) → lists ≡ lists_of script → first_later lists ≡ None → IfOk r (IsAccepted script) → IfOk r (IsRunnable script)
+runnable script (Ok cleared) lists made none h = record { accepted = h; built = ap first_later (h.made ∙ sym made) ∙ none }
+runnable script (Err e) lists made none h = tt

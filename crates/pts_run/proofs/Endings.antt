@@ -6,6 +6,8 @@ use Rattle.pts_tree.specs.declared.script.Script.{Script}
 use Rattle.pts_print.specs.Canonical.{canonical}
 use Rattle.pts_boards.specs.declared.pool.Pool.{Pool}
 use Rattle.pts_program.specs.declared.lists.Lists.{Lists}
+use Rattle.pts_eval.specs.declared.results.RunState.{RunState}
+use Rattle.pts_eval.specs.declared.results.RunState.TheVariants as states
 use Rattle.pts_run.specs.declared.refusal.Refusal.{Refusal}
 use Rattle.pts_run.specs.declared.refusal.Refusal.TheVariants as refusals
 use Rattle.pts_run.specs.declared.refusal.Refusal.TheVariants.{TooLong}
@@ -17,9 +19,9 @@ use Rattle.pts_run.specs.declared.words.Command.TheVariants as commands
 use Rattle.pts_run.specs.Acceptance.{IsAccepted, IsRunnable}
 use Rattle.pts_run.specs.declared.answer.Finish.{Finish}
 use Rattle.pts_run.specs.declared.answer.Finish.TheVariants as finishes
-use Rattle.pts_run.specs.Output.{Reads, Accepts, AcceptsToRun, Refuses, RejectsFor, Takes, IsOutput, IsWholeText, IsAsScriptSays, Wrote, WrotePart, script_limit}
+use Rattle.pts_run.specs.Output.{Reads, Accepts, AcceptsToRun, Refuses, RejectsFor, Takes, IsOutput, IsTerminatedText, IsWholeText, IsAsScriptSays, TakesToTerminate, Wrote, WrotePart, script_limit}
 use Rattle.pts_run.specs.Text.{accepted_line, refusal_line}
-use Rattle.pts_run.specs.Writing.{WritesRun, WritesRunPart, WritesText, Ends, finished, status_of}
+use Rattle.pts_run.specs.Writing.{WritesRun, WritesRunPart, WritesText, Ends, finished, run_finished, status_of}
 
 -- ---- known bytes
 
@@ -40,18 +42,19 @@ leaves_by : {T : Type 0} (command : Command) (bytes whole : List ℕ) (finish : 
 leaves_by command bytes whole finish (Ok x) old new is h = (whole, is, h)
 leaves_by command bytes whole finish (Err e) old new is h = tt
 
-ran_by : {T : Type 0} (pool : Pool) (bytes : List ℕ) (made : Lists) (written : Result T WriteEnd) (old new : Option (List ℕ))
-    → AcceptsToRun bytes made → OnOk written (WritesRun pool made old new)
-    → IfOk (finished finishes.Done written) (λ f. (text : List ℕ) × IsOutput (commands.Run pool) bytes (status_of (Ok f)) text × Appends old new text)
-ran_by pool bytes made (Ok x) old new accepts ran = (ran.text, (made, accepts, ran.is_text), ran.appends)
-ran_by pool bytes made (Err e) old new accepts ran = tt
+ran_by : (pool : Pool) (bytes : List ℕ) (made : Lists) (ran : Result RunState WriteEnd) (old new : Option (List ℕ)) → AcceptsToRun bytes made
+    → IfOk ran (λ state. WritesRun pool made state old new)
+    → IfOk (run_finished ran) (λ f. (text : List ℕ) × IsOutput (commands.Run pool) bytes (status_of (Ok f)) text × Appends old new text)
+ran_by pool bytes made (Ok states.Going) old new accepts w = (w.text, (made, accepts, w.is_text), w.appends)
+ran_by pool bytes made (Ok states.Ended) old new accepts w = (w.text, (made, accepts, w.is_text), w.appends)
+ran_by pool bytes made (Err e) old new accepts w = tt
 
-pub run_ends : {T : Type 0} (pool : Pool) (bytes : List ℕ) (script : Script) (made : Lists) (written : Result T WriteEnd) (old new : Option (List ℕ)) → Reads bytes script → IsRunnable script made
-    → OnOk written (WritesRun pool made old new) → WritesRunPart pool made old new → Ends (commands.Run pool) bytes (finished finishes.Done written) old new
-run_ends pool bytes script made written old new reads runnable whole part =
+pub run_ends : (pool : Pool) (bytes : List ℕ) (script : Script) (made : Lists) (ran : Result RunState WriteEnd) (old new : Option (List ℕ)) → Reads bytes script → IsRunnable script made
+    → IfOk ran (λ state. WritesRun pool made state old new) → WritesRunPart pool made old new → Ends (commands.Run pool) bytes (run_finished ran) old new
+run_ends pool bytes script made ran old new reads runnable whole part =
     let accepts : AcceptsToRun bytes made = record { script = script; reads = reads; runnable = runnable } in
     record {
-      leaves = ran_by pool bytes made written old new accepts whole;
+      leaves = ran_by pool bytes made ran old new accepts whole;
       part = (part.text, inr (inl (part.whole, (made, accepts, part.is_text), part.starts)), part.appends);
     }
 
@@ -109,12 +112,21 @@ module _ (command : Command) (bytes held : List ℕ) (old new : Option (List ℕ
 
   pub wrote_done : (ended : Result Finish WriteEnd) → status_of ended ≡ status.Done → Ends command bytes ended old new → Wrote command bytes status.Done held new
   wrote_done (Ok finishes.Done) e h = wrote_all finishes.Done h
+  wrote_done (Ok finishes.Terminated) e h = absurd (cc)
   wrote_done (Ok finishes.Refused) e h = absurd (cc)
   wrote_done (Err ends.Fault) e h = absurd (cc)
   wrote_done (Err ends.NoMemory) e h = absurd (cc)
 
+  pub wrote_terminated : (ended : Result Finish WriteEnd) → status_of ended ≡ status.Terminated → Ends command bytes ended old new → Wrote command bytes status.Terminated held new
+  wrote_terminated (Ok finishes.Terminated) e h = wrote_all finishes.Terminated h
+  wrote_terminated (Ok finishes.Done) e h = absurd (cc)
+  wrote_terminated (Ok finishes.Refused) e h = absurd (cc)
+  wrote_terminated (Err ends.Fault) e h = absurd (cc)
+  wrote_terminated (Err ends.NoMemory) e h = absurd (cc)
+
   pub wrote_refused : (ended : Result Finish WriteEnd) → status_of ended ≡ status.Refused → Ends command bytes ended old new → Wrote command bytes status.Refused held new
   wrote_refused (Ok finishes.Done) e h = absurd (cc)
+  wrote_refused (Ok finishes.Terminated) e h = absurd (cc)
   wrote_refused (Ok finishes.Refused) e h = wrote_all finishes.Refused h
   wrote_refused (Err ends.Fault) e h = absurd (cc)
   wrote_refused (Err ends.NoMemory) e h = absurd (cc)
@@ -127,10 +139,17 @@ takes (commands.Run pool) bytes text h = (h.0, h.1)
 takes commands.Check bytes text h = (h.0, h.1)
 takes commands.Print bytes text h = (h.0, h.1)
 
+-- a run that is terminated is one that may be
+terminates : (command : Command) (bytes text : List ℕ) → IsTerminatedText command bytes text → TakesToTerminate command bytes
+terminates (commands.Run pool) bytes text h = (h.0, h.1, record { run = h.2.run; permitted = h.2.permitted; ends = h.2.ends })
+terminates commands.Check bytes text h = absurd h
+terminates commands.Print bytes text h = absurd h
+
 -- with no fault the script decides
 pub as_said : {Risen : Type 0} (command : Command) (bytes : List ℕ) (ended : Result Finish WriteEnd) (old new : Option (List ℕ)) → Ends command bytes ended old new
     → ¬ Risen → (ended ≡ Err ends.Fault → Risen) → IsAsScriptSays command bytes (status_of ended)
 as_said command bytes (Ok finishes.Done) old new h calm rises = takes command bytes h.leaves.0 h.leaves.1
+as_said command bytes (Ok finishes.Terminated) old new h calm rises = terminates command bytes h.leaves.0 h.leaves.1
 as_said command bytes (Ok finishes.Refused) old new h calm rises = (h.leaves.1.0, h.leaves.1.1)
 as_said command bytes (Err ends.Fault) old new h calm rises = absurd (calm (rises refl))
 as_said command bytes (Err ends.NoMemory) old new h calm rises = tt
@@ -138,12 +157,14 @@ as_said command bytes (Err ends.NoMemory) old new h calm rises = tt
 -- no such end is a faulty command line or a fault of the source
 pub no_usage : (ended : Result Finish WriteEnd) → status_of ended ≢ status.Usage
 no_usage (Ok finishes.Done) e = absurd (cc)
+no_usage (Ok finishes.Terminated) e = absurd (cc)
 no_usage (Ok finishes.Refused) e = absurd (cc)
 no_usage (Err ends.Fault) e = absurd (cc)
 no_usage (Err ends.NoMemory) e = absurd (cc)
 
 pub no_read_fault : (ended : Result Finish WriteEnd) → status_of ended ≢ status.ReadFault
 no_read_fault (Ok finishes.Done) e = absurd (cc)
+no_read_fault (Ok finishes.Terminated) e = absurd (cc)
 no_read_fault (Ok finishes.Refused) e = absurd (cc)
 no_read_fault (Err ends.Fault) e = absurd (cc)
 no_read_fault (Err ends.NoMemory) e = absurd (cc)
@@ -151,15 +172,24 @@ no_read_fault (Err ends.NoMemory) e = absurd (cc)
 -- a fault of the sink alone ends so
 pub faulty : (ended : Result Finish WriteEnd) → status_of ended ≡ status.WriteFault → ended ≡ Err ends.Fault
 faulty (Ok finishes.Done) e = absurd (cc)
+faulty (Ok finishes.Terminated) e = absurd (cc)
 faulty (Ok finishes.Refused) e = absurd (cc)
 faulty (Err ends.Fault) e = refl
 faulty (Err ends.NoMemory) e = absurd (cc)
 
 pub done : (ended : Result Finish WriteEnd) → status_of ended ≡ status.Done → ended ≡ Ok finishes.Done
 done (Ok finishes.Done) e = refl
+done (Ok finishes.Terminated) e = absurd (cc)
 done (Ok finishes.Refused) e = absurd (cc)
 done (Err ends.Fault) e = absurd (cc)
 done (Err ends.NoMemory) e = absurd (cc)
+
+pub thrown : (ended : Result Finish WriteEnd) → status_of ended ≡ status.Terminated → ended ≡ Ok finishes.Terminated
+thrown (Ok finishes.Terminated) e = refl
+thrown (Ok finishes.Done) e = absurd (cc)
+thrown (Ok finishes.Refused) e = absurd (cc)
+thrown (Err ends.Fault) e = absurd (cc)
+thrown (Err ends.NoMemory) e = absurd (cc)
 
 -- ---- what the words and the reasons tell
 

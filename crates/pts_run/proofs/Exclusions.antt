@@ -9,7 +9,7 @@ use Rattle.pts_program.specs.Lists.{IsProgram, lists_of}
 use Rattle.pts_program.proofs.FirstFaults.{fault-or_sound, fault-unique}
 use Rattle.pts_conflict.specs.Conflicts.{IsClear}
 use Rattle.pts_conflict.proofs.OneConflict.{none_least, one_conflict}
-use Rattle.pts_eval.specs.Works.{first_later}
+use Rattle.pts_eval.specs.Built.{first_later}
 use Rattle.pts_run.specs.declared.refusal.Conflict.{Conflict}
 use Rattle.pts_run.specs.declared.refusal.Refusal.{Refusal}
 use Rattle.pts_run.specs.declared.refusal.Refusal.TheVariants as refusals
@@ -19,7 +19,7 @@ use Rattle.pts_run.specs.declared.words.Command.{Command}
 use Rattle.pts_run.specs.declared.words.Command.TheVariants as commands
 use Rattle.pts_run.specs.Acceptance.{HasConflict, IsAccepted, IsLater, IsRunnable, Rejects, RejectsRun, array_name}
 use Rattle.pts_run.proofs.Sizes.{spelled}
-use Rattle.pts_run.specs.Output.{Reads, Takes, FailsBy, IsAsScriptSays, IsDecided, RejectsFor, Refuses}
+use Rattle.pts_run.specs.Output.{Reads, Takes, TakesToTerminate, FailsBy, IsAsScriptSays, IsDecided, RejectsFor, Refuses}
 
 -- ---- scripts and faults
 
@@ -159,9 +159,16 @@ one_reason command bytes reason other r s = one_by command bytes reason other (w
 
 -- ---- what the bytes decide
 
-decides_taken : (command : Command) (bytes : List ℕ) (answer : Status) → IsAsScriptSays command bytes answer → Takes command bytes → (answer ≡ status.Done) ⊎ (answer ≡ status.NoMemory)
+-- what may be terminated is taken
+terminated_takes : (command : Command) (bytes : List ℕ) → TakesToTerminate command bytes → Takes command bytes
+terminated_takes (commands.Run pool) bytes h = (h.0, h.1)
+terminated_takes commands.Check bytes h = absurd h
+terminated_takes commands.Print bytes h = absurd h
+
+decides_taken : (command : Command) (bytes : List ℕ) (answer : Status) → IsAsScriptSays command bytes answer → Takes command bytes → (answer ≡ status.Done) ⊎ (answer ≡ status.Terminated) ⊎ (answer ≡ status.NoMemory)
 decides_taken command bytes status.Done said takes = inl refl
-decides_taken command bytes status.NoMemory said takes = inr refl
+decides_taken command bytes status.Terminated said takes = inr (inl refl)
+decides_taken command bytes status.NoMemory said takes = inr (inr refl)
 decides_taken command bytes status.Refused said takes = absurd (excludes command bytes said.0 takes said.1)
 decides_taken command bytes status.Usage said takes = absurd said
 decides_taken command bytes status.ReadFault said takes = absurd said
@@ -170,6 +177,7 @@ decides_taken command bytes status.WriteFault said takes = absurd said
 decides_refused : (command : Command) (bytes : List ℕ) (answer : Status) (reason : Refusal) → IsAsScriptSays command bytes answer → Refuses command bytes reason
     → (answer ≡ status.Refused) ⊎ (answer ≡ status.NoMemory)
 decides_refused command bytes status.Done reason said refuses = absurd (excludes command bytes reason said refuses)
+decides_refused command bytes status.Terminated reason said refuses = absurd (excludes command bytes reason (terminated_takes command bytes said) refuses)
 decides_refused command bytes status.NoMemory reason said refuses = inr refl
 decides_refused command bytes status.Refused reason said refuses = inl refl
 decides_refused command bytes status.Usage reason said refuses = absurd said

@@ -9,7 +9,7 @@ use Rattle.pts_program.specs.declared.lists.Lists.{Lists}
 use Rattle.pts_program.specs.Faults.{IsFaultAt, IsSound}
 use Rattle.pts_program.specs.Lists.{lists_of}
 use Rattle.pts_conflict.specs.Conflicts.{IsClear, IsLeastConflict}
-use Rattle.pts_eval.specs.Works.{first_later}
+use Rattle.pts_eval.specs.Built.{first_later}
 use Rattle.pts_run.specs.declared.accept.Rejection.{Rejection}
 use Rattle.pts_run.specs.declared.accept.Rejection.TheVariants as rejections
 use Rattle.pts_run.specs.declared.refusal.Conflict.{Conflict}

@@ -8,6 +8,8 @@ use Rattle.pts_syntax.specs.declared.reading.SyntaxFault.{SyntaxFault}
 use Rattle.pts_syntax.specs.declared.reading.SyntaxKind.TheVariants as fault_kinds
 use Rattle.pts_program.specs.declared.lists.Lists.{Lists}
 use Rattle.pts_boards.specs.declared.pool.Pool.{Pool}
+use Rattle.pts_eval.specs.declared.results.RunState.{RunState}
+use Rattle.pts_eval.specs.declared.results.RunState.TheVariants as states
 use Rattle.pts_eval.specs.Runs.{Run, PermittedRun, IsWhole}
 use Rattle.pts_run.specs.declared.status.Status.{Status}
 use Rattle.pts_run.specs.declared.status.Status.TheVariants as status
@@ -73,20 +75,36 @@ pub record IsRunText (pool : Pool) (lists : Lists) (text : List ℕ) : Type 0 wh
   pub permitted : PermittedRun pool lists run
   pub text_is : text ≡ text_of run.answers
 
--- the same of a run to which nothing can be added
-pub record IsWholeRunText (pool : Pool) (lists : Lists) (text : List ℕ) : Type 0 where
+-- the same of a run to which nothing can be added: all its statements have run, or one of them has terminated it
+pub record IsWholeRunText (pool : Pool) (lists : Lists) (state : RunState) (text : List ℕ) : Type 0 where
   pub run : Run
   pub permitted : PermittedRun pool lists run
   pub whole : IsWhole lists run
+  pub ends : run.state ≡ state
   pub text_is : text ≡ text_of run.answers
+
+-- a permitted run of the program is terminated
+pub record MayTerminate (pool : Pool) (lists : Lists) : Type 0 where
+  pub run : Run
+  pub permitted : PermittedRun pool lists run
+  pub ends : run.state ≡ states.Ended
+
+-- the bytes are a script that is run, and this is the whole text of a run that ends so
+abbrev pub IsTextOfRun : Pool → List ℕ → RunState → List ℕ → Type 0
+IsTextOfRun pool bytes state text = (made : Lists) × AcceptsToRun bytes made × IsWholeRunText pool made state text
 
 -- the whole text that the command gives for bytes that it takes
 abbrev pub IsWholeText : Command → List ℕ → List ℕ → Type 0
-IsWholeText (commands.Run pool) bytes text = (made : Lists) × AcceptsToRun bytes made × IsWholeRunText pool made text
+IsWholeText (commands.Run pool) bytes text = IsTextOfRun pool bytes states.Going text
 IsWholeText commands.Check bytes text = (made : Lists) × Accepts bytes made × (text ≡ accepted_line)
 IsWholeText commands.Print bytes text = (script : Script) × Reads bytes script × (text ≡ canonical script)
 
--- the same, or under `run` the text of a run to which more can be added
+-- the whole text of a run that is terminated
+abbrev pub IsTerminatedText : Command → List ℕ → List ℕ → Type 0
+IsTerminatedText (commands.Run pool) bytes text = IsTextOfRun pool bytes states.Ended text
+IsTerminatedText command bytes text = ⊥
+
+-- the whole text of the command, or under `run` the text of a run to which more can be added
 abbrev pub IsFrontText : Command → List ℕ → List ℕ → Type 0
 IsFrontText (commands.Run pool) bytes text = (made : Lists) × AcceptsToRun bytes made × IsRunText pool made text
 IsFrontText commands.Check bytes text = IsWholeText commands.Check bytes text
@@ -95,6 +113,7 @@ IsFrontText commands.Print bytes text = IsWholeText commands.Print bytes text
 -- the whole text that goes with an answer of the command, for these source bytes
 abbrev pub IsOutput : Command → List ℕ → Status → List ℕ → Type 0
 IsOutput command bytes status.Done text = IsWholeText command bytes text
+IsOutput command bytes status.Terminated text = IsTerminatedText command bytes text
 IsOutput command bytes status.Refused text = (reason : Refusal) × Refuses command bytes reason × (text ≡ refusal_line reason)
 IsOutput command bytes status.ReadFault text = text ≡ []
 IsOutput command bytes status.Usage text = ⊥
@@ -118,9 +137,15 @@ Wrote command bytes answer held new = (text : List ℕ) × IsOutput command byte
 abbrev pub WrotePart : Command → List ℕ → List ℕ → Option (List ℕ) → Type 0
 WrotePart command bytes held new = (text : List ℕ) × IsPartialOutput command bytes text × (new ≡ Some (held ++ text))
 
+-- the command runs the bytes, and the run may be terminated
+abbrev pub TakesToTerminate : Command → List ℕ → Type 0
+TakesToTerminate (commands.Run pool) bytes = (made : Lists) × AcceptsToRun bytes made × MayTerminate pool made
+TakesToTerminate command bytes = ⊥
+
 -- what an answer says of the bytes, where nothing fails outside
 abbrev pub IsAsScriptSays : Command → List ℕ → Status → Type 0
 IsAsScriptSays command bytes status.Done = Takes command bytes
+IsAsScriptSays command bytes status.Terminated = TakesToTerminate command bytes
 IsAsScriptSays command bytes status.Refused = (reason : Refusal) × Refuses command bytes reason
 IsAsScriptSays command bytes status.NoMemory = Unit {0}
 IsAsScriptSays command bytes status.Usage = ⊥
@@ -130,5 +155,5 @@ IsAsScriptSays command bytes status.WriteFault = ⊥
 -- where nothing fails outside the bytes decide, but for want of memory
 pub record IsDecided (command : Command) (bytes : List ℕ) (answer : Status) : Type 0 where
   pub said : IsAsScriptSays command bytes answer
-  pub taken : Takes command bytes → (answer ≡ status.Done) ⊎ (answer ≡ status.NoMemory)
+  pub taken : Takes command bytes → (answer ≡ status.Done) ⊎ (answer ≡ status.Terminated) ⊎ (answer ≡ status.NoMemory)
   pub refused : (reason : Refusal) → Refuses command bytes reason → (answer ≡ status.Refused) ⊎ (answer ≡ status.NoMemory)

@@ -9,7 +9,14 @@ use Rattle.pts_types.specs.declared.value.Value.{Value}
 use Rattle.pts_types.specs.declared.value.Value.TheVariants as values
 use Rattle.pts_syntax.specs.KindNames.{kind_name}
 use Rattle.pts_program.specs.RuleNames.{item_of, position_of, rule_name}
-use Rattle.pts_eval.specs.Runs.{Answer, Reduced, Printed, Terminated}
+use Rattle.pts_lowering.specs.declared.forms.CellRange.{CellRange}
+use Rattle.pts_lowering.specs.declared.forms.LoweredCall.{LoweredCall}
+use Rattle.pts_lowering.specs.declared.forms.LoweredCall.TheVariants as lowered
+use Rattle.pts_lowering.specs.declared.forms.ScanOrder.{ScanOrder}
+use Rattle.pts_lowering.specs.declared.forms.ScanOrder.TheVariants as orders
+use Rattle.pts_eval.specs.declared.results.CallResult.{CallResult}
+use Rattle.pts_eval.specs.declared.results.CallResult.TheVariants as results
+use Rattle.pts_eval.specs.Runs.{Answer, Called, Printed, Terminated}
 
 abbrev pub line_feed : List ℕ
 line_feed = 10 ∷ []
@@ -25,9 +32,37 @@ value_text (values.Bool false) = codes "false"
 abbrev pub spaced : List Value → List ℕ
 spaced cells = flat_map (λ cell. codes " " ++ value_text cell) cells
 
+-- the first word of a reduction: one of two ranges, or of what a function makes of the elements, has a word of its own
+abbrev pub reduction_word : Option CellRange → Option ℕ → List ℕ
+reduction_word None None = codes "reduce"
+reduction_word second transform = codes "transform_reduce"
+
+abbrev pub scan_word : ScanOrder → Option ℕ → List ℕ
+scan_word orders.Inclusive None = codes "inclusive_scan"
+scan_word orders.Inclusive (Some function) = codes "transform_inclusive_scan"
+scan_word orders.Exclusive None = codes "exclusive_scan"
+scan_word orders.Exclusive (Some function) = codes "transform_exclusive_scan"
+
+-- the first word of a call
+abbrev pub call_word : LoweredCall → List ℕ
+call_word (lowered.ForEach x) = codes "for_each"
+call_word (lowered.Transform x) = codes "transform"
+call_word (lowered.FindIf x) = codes "find_if"
+call_word (lowered.CountIf x) = codes "count_if"
+call_word (lowered.Reduce x) = reduction_word x.second x.transform
+call_word (lowered.Scan x) = scan_word x.order x.transform
+call_word (lowered.Loop x) = codes "for_loop"
+
+-- what a line says behind the word
+abbrev pub result_text : CallResult → List ℕ
+result_text results.Done = []
+result_text (results.Value value) = codes " " ++ value_text value
+result_text (results.Position (Some place)) = codes " " ++ decimal place
+result_text (results.Position None) = codes " end"
+
 -- the line of a statement, which is named by its number among the statements from 1 on
 abbrev pub line_of : ℕ → Answer → List ℕ
-line_of number (Reduced value) = decimal number ++ codes ": reduce " ++ value_text value ++ line_feed
+line_of number (Called call result) = decimal number ++ codes ": " ++ call_word call ++ result_text result ++ line_feed
 line_of number (Printed name cells) = decimal number ++ codes ": print " ++ name ++ spaced cells ++ line_feed
 line_of number Terminated = decimal number ++ codes ": terminated" ++ line_feed
 

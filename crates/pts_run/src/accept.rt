@@ -4,7 +4,7 @@ ghost use Rattle.std.specs.Prelude.{◌≡◌, Err, IfOk, None};
 ghost use Rattle.pts_syntax.specs.Syntax.{IsSpelled};
 ghost use Rattle.pts_program.specs.Faults.{IsSound};
 ghost use Rattle.pts_program.specs.Lists.{lists_of};
-ghost use Rattle.pts_eval.specs.Works.{first_later};
+ghost use Rattle.pts_eval.specs.Built.{first_later};
 ghost use Rattle.pts_run.specs.declared.refusal.Refusal.{Refusal as Reason};
 ghost use Rattle.pts_conflict.specs.Conflicts.{IsClear};
 ghost use Rattle.pts_run.specs.Acceptance as spec;

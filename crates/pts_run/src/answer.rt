@@ -13,23 +13,29 @@ use crate::accept::{Rejection, accept, accept_to_run};
 use crate::refusal::Refusal;
 use crate::run::{WriteEnd, run_program, write_accepted, write_canonical, write_refusal};
 use crate::words::Command;
-use pts_boards::Pool;
+use pts_boards::{Gate, Pool};
+use pts_eval::RunState;
 use pts_io::Sink;
 use pts_tree::Script;
 use std::alloc::Global;
+use std::thread::Threads;
 
 /// What was written, where all of it was.
 #[derive(Clone, Copy, Debug, PartialEq, Eq)]
 pub enum Finish {
     /// The text of the command.
     Done,
+    /// The text of a run that a statement terminated.
+    Terminated,
     /// The line of a refusal.
     Refused,
 }
 
 /// Does with a script what the command says, and writes the lines of that.
-pub fn answer<K: Sink>(
+pub fn answer<R: Threads + Sync, K: Sink, G: Gate>(
+    rt: &R,
     alloc: Global,
+    gate: &G,
     command: Command,
     script: &Script,
     sink: &mut K,
@@ -39,14 +45,16 @@ pub fn answer<K: Sink>(
     ensures counted { IsCounted result (K.faults sink.old) (K.faults sink.new) }
 {
     match command {
-        Command::Run { pool } => run_script(alloc, pool, script, sink),
+        Command::Run { pool } => run_script(rt, alloc, gate, pool, script, sink),
         Command::Check => check_script(alloc, script, sink),
         Command::Print => print_script(alloc, script, sink),
     }
 }
 
-fn run_script<K: Sink>(
+fn run_script<R: Threads + Sync, K: Sink, G: Gate>(
+    rt: &R,
     alloc: Global,
+    gate: &G,
     pool: Pool,
     script: &Script,
     sink: &mut K,
@@ -57,8 +65,8 @@ fn run_script<K: Sink>(
 {
     match accept_to_run(alloc, script) {
         Ok(cleared) => {
-            let written = run_program(alloc, pool, cleared.program(), sink);
-            finished(Finish::Done, written)
+            let ran = run_program(rt, alloc, gate, pool, &cleared, sink);
+            run_finished(ran)
         }
         Err(rejection) => reject(alloc, rejection, sink),
     }
@@ -98,9 +106,21 @@ fn reject<K: Sink>(alloc: Global, rejection: Rejection, sink: &mut K) -> Result<
 pub fn refuse<K: Sink>(alloc: Global, refusal: Refusal, sink: &mut K) -> Result<Finish, WriteEnd>
     ensures ends { (command : Command) (bytes : List ℕ) → Refuses command bytes refusal → Ends command bytes result (K.written sink.old) (K.written sink.new) }
     ensures not_done { result ≢ Ok Finish.Done }
+    ensures not_terminated { result ≢ Ok Finish.Terminated }
     ensures counted { IsCounted result (K.faults sink.old) (K.faults sink.new) }
 {
     finished(Finish::Refused, write_refusal(alloc, refusal, sink))
+}
+
+// How a command ends whose run ends so.
+fn run_finished(ran: Result<RunState, WriteEnd>) -> Result<Finish, WriteEnd>
+    ensures { result ≡ spec.run_finished ran }
+{
+    match ran {
+        Ok(RunState::Going) => Ok(Finish::Done),
+        Ok(RunState::Ended) => Ok(Finish::Terminated),
+        Err(end) => Err(end),
+    }
 }
 
 // This end, where all was written.

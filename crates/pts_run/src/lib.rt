@@ -9,7 +9,6 @@ mod refusal;
 mod run;
 mod script;
 mod status;
-mod sums;
 #[cfg(test)]
 mod tests;
 mod top;

@@ -1,26 +1,44 @@
 //! The texts of lines.
 
 ghost use Rattle.std.specs.Prelude.{◌≡◌, ◌++◌, OnOk, decimal};
-ghost use Rattle.pts_eval.specs.Runs.{Reduced, Printed};
+ghost use Rattle.pts_eval.specs.Runs.{Called, Printed, Terminated};
 ghost use Rattle.pts_run.specs.declared.refusal.Refusal.TheVariants as refusals;
+ghost use Rattle.pts_run.specs.Text as spec;
 ghost use Rattle.pts_run.specs.Text.{at_position, cell_text, evaluation, line_feed, place_text, line_of, spaced, value_text, refusal_line};
 
 use crate::refusal::{Conflict, Refusal};
 use itoa::{Buffer, Integer};
+use pts_eval::CallResult;
+use pts_lowering::{CellRange, LoweredCall, ScanOrder};
 use pts_program::BuildFault;
 use pts_syntax::SyntaxFault;
 use pts_types::Value;
 use std::alloc::AllocError;
 
-/// Puts the line of a sum behind what the text holds.
+/// Puts the line of a call behind what the text holds.
 #[tactic(auto, using(std::proofs::lemmas::List::append_assoc))]
-pub fn push_reduced(text: &mut Vec<u8>, number: usize, value: Value) -> Result<(), AllocError>
-    ensures { OnOk result (text.new.items ≡ text.old.items ++ line_of number (Reduced value)) }
+pub fn push_called(
+    text: &mut Vec<u8>,
+    number: usize,
+    call: &LoweredCall,
+    given: CallResult,
+) -> Result<(), AllocError>
+    ensures { OnOk result (text.new.items ≡ text.old.items ++ line_of number (Called call.now given)) }
 {
     push_number(text, number)?;
-    text.extend_from_slice(b": reduce ")?;
-    push_value(text, value)?;
+    text.extend_from_slice(b": ")?;
+    text.extend_from_slice(call_word(call).as_bytes())?;
+    push_result(text, given)?;
     text.extend_from_slice(b"\n")
+}
+
+/// Puts the line of a statement that has terminated the run behind what the text holds.
+#[tactic(auto, using(std::proofs::lemmas::List::append_assoc))]
+pub fn push_terminated(text: &mut Vec<u8>, number: usize) -> Result<(), AllocError>
+    ensures { OnOk result (text.new.items ≡ text.old.items ++ line_of number Terminated) }
+{
+    push_number(text, number)?;
+    text.extend_from_slice(b": terminated\n")
 }
 
 /// Puts the line of a printed array behind what the text holds.
@@ -140,6 +158,60 @@ fn push_position(text: &mut Vec<u8>, position: Option<u64>) -> Result<(), AllocE
             push_number(text, position)
         }
         None => Ok(()),
+    }
+}
+
+// The first word of a call.
+fn call_word(call: &LoweredCall) -> &'static str
+    ensures { result.now ≡ spec.call_word call.now }
+{
+    match call {
+        LoweredCall::ForEach(_) => "for_each",
+        LoweredCall::Transform(_) => "transform",
+        LoweredCall::FindIf(_) => "find_if",
+        LoweredCall::CountIf(_) => "count_if",
+        LoweredCall::Reduce(x) => reduction_word(x.second, x.transform),
+        LoweredCall::Scan(x) => scan_word(x.order, x.transform),
+        LoweredCall::Loop(_) => "for_loop",
+    }
+}
+
+fn reduction_word(second: Option<CellRange>, transform: Option<u32>) -> &'static str
+    ensures { result.now ≡ spec.reduction_word second transform }
+{
+    match (second, transform) {
+        (None, None) => "reduce",
+        _ => "transform_reduce",
+    }
+}
+
+fn scan_word(order: ScanOrder, transform: Option<u32>) -> &'static str
+    ensures { result.now ≡ spec.scan_word order transform }
+{
+    match (order, transform) {
+        (ScanOrder::Inclusive, None) => "inclusive_scan",
+        (ScanOrder::Inclusive, Some(_)) => "transform_inclusive_scan",
+        (ScanOrder::Exclusive, None) => "exclusive_scan",
+        (ScanOrder::Exclusive, Some(_)) => "transform_exclusive_scan",
+    }
+}
+
+// What a call gives, behind a space.
+#[tactic(auto, using(std::proofs::lemmas::List::append_assoc))]
+fn push_result(text: &mut Vec<u8>, given: CallResult) -> Result<(), AllocError>
+    ensures { OnOk result (text.new.items ≡ text.old.items ++ spec.result_text given) }
+{
+    match given {
+        CallResult::Done => Ok(()),
+        CallResult::Value(value) => {
+            text.extend_from_slice(b" ")?;
+            push_value(text, value)
+        }
+        CallResult::Position(Some(place)) => {
+            text.extend_from_slice(b" ")?;
+            push_number(text, place)
+        }
+        CallResult::Position(None) => text.extend_from_slice(b" end"),
     }
 }
 

@@ -1,24 +1,30 @@
 //! Running the statements of a program in order, and writing each one's line.
 
-ghost use Rattle.std.specs.Prelude.{◌≡◌, ◌++◌, false, None, OnOk};
+ghost use Rattle.std.specs.Prelude.{◌≡◌, true, false, None, IfOk, OnOk};
 ghost use Rattle.pts_print.specs.Canonical.{canonical};
-ghost use Rattle.pts_eval.specs.Runs.{Answer, Performs, name_at};
-ghost use Rattle.pts_eval.specs.Works.{first_later, is_later};
+ghost use Rattle.pts_program.specs.declared.info.StatementInfo.TheVariants.{Call};
+ghost use Rattle.pts_store.specs.Laws.{SameShape};
+ghost use Rattle.pts_eval.specs.Built.{first_later, is_later};
+ghost use Rattle.pts_eval.specs.Cells.{start_store};
+ghost use Rattle.pts_eval.specs.Runs.{name_at};
 ghost use Rattle.pts_run.specs.declared.run.WriteEnd.TheVariants.{Fault, NoMemory};
-ghost use Rattle.pts_run.specs.Writing.{IsCounted, WritesRun, WritesRunPart, WritesText};
-ghost use Rattle.pts_run.specs.Text.{accepted_line, line_of, refusal_line};
+ghost use Rattle.pts_run.specs.Writing.{AddsLine, IsCounted, WritesRun, WritesRunPart, WritesText};
+ghost use Rattle.pts_run.specs.Text.{accepted_line, refusal_line};
 
-use crate::lines::{push_printed, push_reduced, push_refusal};
+use crate::lines::{push_called, push_printed, push_refusal, push_terminated};
 use crate::refusal::Refusal;
-use crate::sums::sum_between;
-use pts_boards::Pool;
-use pts_eval::{Store, Work, start_store, work_of};
+use pts_boards::{Gate, Pool};
+use pts_calls::{CallAnswer, built_call, run_call};
+use pts_conflict::Cleared;
+use pts_eval::{RunState, Store, start_store};
 use pts_io::{Sink, SinkFault, write_all};
 use pts_program::{Program, StatementInfo};
+use pts_store::writing_keeps_the_shape;
 use pts_syntax::print;
 use pts_tree::Script;
-use pts_types::{NoMemory, Value};
+use pts_types::NoMemory;
 use std::alloc::{AllocError, Global};
+use std::thread::Threads;
 
 /// Why not all was written.
 #[derive(Clone, Copy, Debug, PartialEq, Eq)]
@@ -51,27 +57,50 @@ impl From<SinkFault> for WriteEnd {
     }
 }
 
-/// Runs the statements in order, all of which are built. Each one's line is written once it has ended.
-#[tactic(auto, using(crate::proofs::Runs::is_built))]
-pub fn run_program<K: Sink>(
+// What all statements of a run go by.
+#[derive(Drop)]
+struct Runner<'a, R, G> {
+    rt: &'a R,
     alloc: Global,
+    gate: &'a G,
     pool: Pool,
-    program: &Program,
+    cleared: &'a Cleared,
+}
+
+/// Runs the statements in order, all of which are built, until one of them terminates the run. Each one's line is written once it has
+/// ended.
+#[tactic(auto, using(crate::proofs::Runs::is_built))]
+pub fn run_program<R: Threads + Sync, K: Sink, G: Gate>(
+    rt: &R,
+    alloc: Global,
+    gate: &G,
+    pool: Pool,
+    cleared: &Cleared,
     sink: &mut K,
-) -> Result<(), WriteEnd>
-    requires { first_later program.now ≡ None }
-    ensures whole { OnOk result (WritesRun pool program.now (K.written sink.old) (K.written sink.new)) }
-    ensures part { WritesRunPart pool program.now (K.written sink.old) (K.written sink.new) }
+) -> Result<RunState, WriteEnd>
+    requires { first_later cleared.now ≡ None }
+    ensures whole { IfOk result (λ state. WritesRun pool cleared.now state (K.written sink.old) (K.written sink.new)) }
+    ensures part { WritesRunPart pool cleared.now (K.written sink.old) (K.written sink.new) }
     ensures counted { IsCounted result (K.faults sink.old) (K.faults sink.new) }
 {
-    let store = start_store(alloc, program)?;
+    let mut store = start_store(alloc, cleared.program())?;
     let mut line = Vec::new(alloc);
-    for (place, statement) in program.statements().iter().enumerate() {
+    let runner = Runner {
+        rt,
+        alloc,
+        gate,
+        pool,
+        cleared,
+    };
+    for (place, statement) in cleared.program().statements().iter().enumerate() {
         line.clear();
-        push_line(&mut line, pool, program, &store, place + 1, *statement)?;
+        let state = runner.perform(*statement, place + 1, &mut store, &mut line)?;
         write_all(sink, &line)?;
+        if has_ended(state) {
+            return Ok(RunState::Ended);
+        }
     }
-    Ok(())
+    Ok(RunState::Going)
 }
 
 /// Writes the line of a script that is accepted.
@@ -108,29 +137,72 @@ pub fn write_canonical<K: Sink>(
     Ok(())
 }
 
-// Performs a statement that is built, and puts its line behind what the text holds.
-fn push_line(
-    text: &mut Vec<u8>,
-    pool: Pool,
-    program: &Program,
-    store: &Store,
-    number: usize,
-    statement: StatementInfo,
-) -> Result<(), AllocError>
-    requires { is_later program.now statement ≡ false }
-    ensures { OnOk result ((answer : Answer) × Performs pool program.now statement store.now answer store.now × (text.new.items ≡ text.old.items ++ line_of number answer)) }
-{
-    match work_of(program, statement) {
-        Some(Work::Sum(init, range)) => {
-            let cells = store.cells(range.array);
-            let sum = sum_between(init, cells, range.low, range.high);
-            push_reduced(text, number, Value::U64(sum))
+impl<R: Threads + Sync, G: Gate> Runner<'_, R, G> {
+    // Performs a statement that is built, and puts its line behind what the text holds.
+    fn perform(
+        &self,
+        statement: StatementInfo,
+        number: usize,
+        store: &mut Store,
+        text: &mut Vec<u8>,
+    ) -> Result<RunState, NoMemory>
+        requires built { is_later self.now.cleared.now statement ≡ false }
+        requires arrays { SameShape (start_store self.now.cleared.now) store.old }
+        ensures performed { IfOk result (λ state. AddsLine self.now.pool self.now.cleared.now statement number store.old store.new state text.old.items text.new.items) }
+        ensures arrays { OnOk result (SameShape (start_store self.now.cleared.now) store.new) }
+    {
+        match statement {
+            StatementInfo::Print(array) => {
+                let name = name_of(self.cleared.program(), array);
+                push_printed(text, number, name, store.cells(array))?;
+                Ok(RunState::Going)
+            }
+            StatementInfo::Call(call) => self.perform_call(call, number, store, text),
+            StatementInfo::Block(_) => unreachable!(),
         }
-        Some(Work::Print(array)) => {
-            push_printed(text, number, name_of(program, array), store.cells(array))
-        }
-        None => unreachable!(),
     }
+
+    fn perform_call(
+        &self,
+        call: u32,
+        number: usize,
+        store: &mut Store,
+        text: &mut Vec<u8>,
+    ) -> Result<RunState, NoMemory>
+        requires built { is_later self.now.cleared.now (Call call) ≡ false }
+        requires arrays { SameShape (start_store self.now.cleared.now) store.old }
+        ensures performed { IfOk result (λ state. AddsLine self.now.pool self.now.cleared.now (Call call) number store.old store.new state text.old.items text.new.items) }
+        ensures arrays { OnOk result (SameShape (start_store self.now.cleared.now) store.new) }
+    {
+        writing_keeps_the_shape();
+        let form = built_call(self.cleared, call);
+        match run_call(
+            self.rt,
+            self.alloc,
+            self.gate,
+            self.pool,
+            self.cleared,
+            call,
+            &*store,
+        )? {
+            CallAnswer::Gave(given, writes) => {
+                store.accept(&writes);
+                push_called(text, number, form, given)?;
+                Ok(RunState::Going)
+            }
+            CallAnswer::Terminated => {
+                push_terminated(text, number)?;
+                Ok(RunState::Ended)
+            }
+        }
+    }
+}
+
+fn has_ended(state: RunState) -> bool
+    ensures yes { result ≡ true → state ≡ RunState.Ended }
+    ensures no { result ≡ false → state ≡ RunState.Going }
+{
+    matches!(state, RunState::Ended)
 }
 
 // The name of the array with this number; empty where there is no such array.

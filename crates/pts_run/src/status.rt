@@ -1,6 +1,6 @@
 //! The answers of the top call.
 
-/// How a call ended, in the order of the program's exit statuses, which are 0 to 2 and 4 to 6.
+/// How a call ended, in the order of the program's exit statuses, which are 0 to 6.
 #[derive(Clone, Copy, Debug, PartialEq, Eq)]
 pub enum Status {
     /// The command was carried out and all its lines were written.
@@ -9,6 +9,8 @@ pub enum Status {
     Usage,
     /// The script was refused, and its one line of refusal was written.
     Refused,
+    /// The script was run, and a statement terminated the run: it threw. The lines up to there were written.
+    Terminated,
     /// The source failed. Nothing was written.
     ReadFault,
     /// The sink failed.

@@ -7,13 +7,14 @@ mod values;
 
 use crate::script::read_script;
 use crate::{Command, Status, read_words, run_words};
-use pts_boards::Pool;
+use pts_boards::{NoGate, Pool};
 use pts_eval::eval_fn;
 use pts_io::{MemorySink, MemorySource};
 use pts_program::{Program, build};
 use pts_types::{Thrown, Value};
 use std::alloc::{AllocError, Global};
 use std::test::Fail;
+use std::thread::Threads;
 
 // The number of a call that never comes.
 const NEVER: u64 = 999;
@@ -31,7 +32,8 @@ fn words(alloc: Global, texts: &[&str]) -> Result<Vec<String>, AllocError> {
 }
 
 // A call with these words on the script, and the sink that it wrote to. The calls of these numbers fail.
-fn call(
+fn call<R: Threads + Sync>(
+    rt: &R,
     alloc: Global,
     texts: &[&str],
     script: &[u8],
@@ -41,7 +43,14 @@ fn call(
     let fails = [failing_read].to_vec(alloc)?;
     let mut source = MemorySource::new(script.to_vec(alloc)?, fails);
     let mut sink = MemorySink::new(alloc, 1000, [failing_write].to_vec(alloc)?)?;
-    let status = run_words(alloc, &words(alloc, texts)?, &mut source, &mut sink);
+    let status = run_words(
+        rt,
+        alloc,
+        &words(alloc, texts)?,
+        &mut source,
+        &mut sink,
+        &NoGate,
+    );
     Ok((status, sink))
 }
 
@@ -93,12 +102,13 @@ fn reads_the_words_of_a_command(rt: HostRuntime) -> Result<(), Fail> {
 }
 
 // The first of the command lines that is one, reads or writes: each call of the source and of the sink would fail.
-fn first_command<'a>(
+fn first_command<'a, R: Threads + Sync>(
+    rt: &R,
     alloc: Global,
     table: &[&'a [&'a str]],
 ) -> Result<Option<&'a [&'a str]>, Fail> {
     for texts in table {
-        let (found, sink) = call(alloc, texts, ONE_LINE.as_bytes(), 0, 0)?;
+        let (found, sink) = call(rt, alloc, texts, ONE_LINE.as_bytes(), 0, 0)?;
         if found != Status::Usage || !sink.bytes().is_empty() {
             return Ok(Some(texts));
         }
@@ -115,18 +125,19 @@ fn other_words_read_and_write_nothing(rt: HostRuntime) -> Result<(), Fail> {
         &["check", "x"],
         &["print", "--workers", "1"],
     ];
-    assert!(rt; first_command(rt.alloc(), &table)?.is_none());
+    assert!(rt; first_command(&rt, rt.alloc(), &table)?.is_none());
     Ok(())
 }
 
 // The first of the scripts that gives another status or another text.
-fn first_other<'a>(
+fn first_other<'a, R: Threads + Sync>(
+    rt: &R,
     alloc: Global,
     word: &str,
     table: &[(&'a str, Status, &str)],
 ) -> Result<Option<&'a str>, Fail> {
     for (script, status, text) in table {
-        let (found, sink) = call(alloc, &[word], script.as_bytes(), NEVER, NEVER)?;
+        let (found, sink) = call(rt, alloc, &[word], script.as_bytes(), NEVER, NEVER)?;
         if found != *status || sink.bytes() != text.as_bytes() {
             return Ok(Some(script));
         }
@@ -173,16 +184,16 @@ fn writes_the_lines_or_the_refusal(rt: HostRuntime) -> Result<(), Fail> {
         ),
         ("pts 2;", Status::Refused, "refused syntax at 4\n"),
     ];
-    assert_eq!(rt; first_other(rt.alloc(), "run", &table)?, None);
+    assert_eq!(rt; first_other(&rt, rt.alloc(), "run", &table)?, None);
     Ok(())
 }
 
 #[test]
 fn checks_and_prints(rt: HostRuntime) -> Result<(), Fail> {
     let checked = [(ONE_LINE, Status::Done, "accepted\n")];
-    assert_eq!(rt; first_other(rt.alloc(), "check", &checked)?, None);
+    assert_eq!(rt; first_other(&rt, rt.alloc(), "check", &checked)?, None);
     let printed = [("pts 01;print  a;", Status::Done, "pts 1 ;\nprint a ;\n")];
-    assert_eq!(rt; first_other(rt.alloc(), "print", &printed)?, None);
+    assert_eq!(rt; first_other(&rt, rt.alloc(), "print", &printed)?, None);
     Ok(())
 }
 
@@ -217,10 +228,14 @@ fn functions_have_values(rt: HostRuntime) {
 }
 
 // The first status that two lines do not end with, or not with this text, where these calls fail.
-fn first_missed(alloc: Global, table: &[(u64, u64, Status, &str)]) -> Result<Option<Status>, Fail> {
+fn first_missed<R: Threads + Sync>(
+    rt: &R,
+    alloc: Global,
+    table: &[(u64, u64, Status, &str)],
+) -> Result<Option<Status>, Fail> {
     for (failing_read, failing_write, status, text) in table {
         let script = TWO_LINES.as_bytes();
-        let (found, sink) = call(alloc, &["run"], script, *failing_read, *failing_write)?;
+        let (found, sink) = call(rt, alloc, &["run"], script, *failing_read, *failing_write)?;
         if found != *status || sink.bytes() != text.as_bytes() {
             return Ok(Some(*status));
         }
@@ -236,6 +251,6 @@ fn stops_at_a_fault(rt: HostRuntime) -> Result<(), Fail> {
         (NEVER, 0, Status::WriteFault, ""),
         (NEVER, 1, Status::WriteFault, "1: reduce 6\n"),
     ];
-    assert_eq!(rt; first_missed(rt.alloc(), &table)?, None);
+    assert_eq!(rt; first_missed(&rt, rt.alloc(), &table)?, None);
     Ok(())
 }

@@ -12,16 +12,20 @@ use crate::run::WriteEnd;
 use crate::script::{ScriptFault, read_script};
 use crate::status::Status;
 use crate::words::{Command, read_words};
+use pts_boards::Gate;
 use pts_io::{Sink, Source};
 use std::alloc::Global;
+use std::thread::Threads;
 
 /// Does what the words say with the script that the source gives, and writes its lines to the sink.
-/// A script has at most 1,048,576 bytes.
-pub fn run_words<S: Source, K: Sink>(
+/// A script has at most 1,048,576 bytes. The gate is passed before each chunk of a call.
+pub fn run_words<R: Threads + Sync, S: Source, K: Sink, G: Gate>(
+    rt: &R,
     alloc: Global,
     words: &[String],
     source: &mut S,
     sink: &mut K,
+    gate: &G,
 ) -> Status
     // Words that are no command, and they alone, are Usage; then nothing is read or written.
     ensures usage { (result ≡ Status.Usage) ↔ ((command : Command) → IsCommand (map string_bytes words.now) command → ⊥) }
@@ -33,10 +37,13 @@ pub fn run_words<S: Source, K: Sink>(
         → ¬ HasRisen (S.Source.faults source.old) (S.Source.faults source.new) → ¬ HasRisen (K.Sink.faults sink.old) (K.Sink.faults sink.new)
         → result ≢ Status.NoMemory → Wrote command bytes result held (K.written sink.new) }
 
-    // These two say that all was written, whatever else failed.
+    // These say that all was written, whatever else failed.
     ensures done { (command : Command) (bytes : List ℕ) (held : List ℕ) → IsCommand (map string_bytes words.now) command
         → S.left source.old ≡ Some bytes → K.written sink.old ≡ Some held
         → result ≡ Status.Done → Wrote command bytes Status.Done held (K.written sink.new) }
+    ensures terminated { (command : Command) (bytes : List ℕ) (held : List ℕ) → IsCommand (map string_bytes words.now) command
+        → S.left source.old ≡ Some bytes → K.written sink.old ≡ Some held
+        → result ≡ Status.Terminated → Wrote command bytes Status.Terminated held (K.written sink.new) }
     ensures refused { (command : Command) (bytes : List ℕ) (held : List ℕ) → IsCommand (map string_bytes words.now) command
         → S.left source.old ≡ Some bytes → K.written sink.old ≡ Some held
         → result ≡ Status.Refused → Wrote command bytes Status.Refused held (K.written sink.new) }
@@ -48,12 +55,13 @@ pub fn run_words<S: Source, K: Sink>(
     ensures part_written { (command : Command) (bytes : List ℕ) (held : List ℕ) → IsCommand (map string_bytes words.now) command
         → S.left source.old ≡ Some bytes → K.written sink.old ≡ Some held → WrotePart command bytes held (K.written sink.new) }
 
-    // Done, and every refusal but that of a long script, say that the source was read to its end.
+    // Done, Terminated and every refusal but that of a long script say that the source was read to its end.
     ensures read_to_the_end { result ≡ Status.Done → IsAtEnd (S.left source.new) }
+    ensures terminated_at_the_end { result ≡ Status.Terminated → IsAtEnd (S.left source.new) }
     ensures refused_at_the_end { (bytes : List ℕ) → S.left source.old ≡ Some bytes → length bytes ≤ script_limit
         → result ≡ Status.Refused → IsAtEnd (S.left source.new) }
 
-    // Where nothing fails outside, the bytes decide between Done and Refused, and no other answer comes but want of memory.
+    // Where nothing fails outside, the bytes decide between a refusal and a run, and no other answer comes but want of memory.
     ensures complete { (command : Command) (bytes : List ℕ) → IsCommand (map string_bytes words.now) command → S.left source.old ≡ Some bytes
         → ¬ HasRisen (S.Source.faults source.old) (S.Source.faults source.new) → ¬ HasRisen (K.Sink.faults sink.old) (K.Sink.faults sink.new)
         → IsDecided command bytes result }
@@ -63,7 +71,7 @@ pub fn run_words<S: Source, K: Sink>(
         return Status::Usage;
     };
     match read_script(alloc, source) {
-        Ok(script) => status_of(answer(alloc, command, &script, sink)),
+        Ok(script) => status_of(answer(rt, alloc, gate, command, &script, sink)),
         Err(ScriptFault::Refused(refusal)) => status_of(refuse(alloc, refusal, sink)),
         Err(ScriptFault::Source) => Status::ReadFault,
         Err(ScriptFault::NoMemory) => Status::NoMemory,
@@ -76,6 +84,7 @@ fn status_of(ended: Result<Finish, WriteEnd>) -> Status
 {
     match ended {
         Ok(Finish::Done) => Status::Done,
+        Ok(Finish::Terminated) => Status::Terminated,
         Ok(Finish::Refused) => Status::Refused,
         Err(WriteEnd::Fault) => Status::WriteFault,
         Err(WriteEnd::NoMemory) => Status::NoMemory,

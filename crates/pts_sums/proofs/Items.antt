@@ -13,7 +13,7 @@ use Rattle.pts_store.specs.Steps.{AreOf}
 use Rattle.pts_store.specs.Stores.{Store}
 use Rattle.pts_store.specs.Writes.{Writes, PutsCell}
 use Rattle.pts_store.proofs.Together.{no_steps, one_step_more}
-use Rattle.pts_eval.specs.Runs.{range_in}
+use Rattle.pts_eval.specs.Cells.{range_in}
 use Rattle.pts_eval.specs.Sums.{item_of, item_of_pair, items_by, items_in, items_of_pairs, steps_into}
 
 -- ---- pairs
@@ -72,13 +72,3 @@ module _ (functions : List FunctionInfo) (store : Store) (call : Reduction) wher
       ap Some is ∙ get-pairs functions call.transform (range_in store call.first) (range_in store second) at x y read read' ∙ ap (λ xs. slice_get xs at) (sym (two_ranges second e))
 
 -- ---- what a reduction writes
-
-pub nothing_written : (into : Option CellIndex) (sum : Option Value) → steps_into into sum ≡ [] → AreOf (steps_into into sum) []
-nothing_written into sum e = subst (λ steps. AreOf steps []) (sym e) no_steps
-
-pub one_written : (into : Option CellIndex) (sum : Option Value) (cell : CellIndex) (value : Value) (old new : Writes) → into ≡ Some cell → sum ≡ Some value → old ≡ []
-    → PutsCell old new cell.array cell.index value → AreOf (steps_into into sum) new
-one_written into sum cell value old new e e' none put =
-    let begun : AreOf [] old = subst (AreOf []) (sym none) no_steps in
-    let own = one_step_more [] old new cell.array cell.index value begun put in
-    subst (λ o. AreOf (steps_into o sum) new) (sym e) (subst (λ s. AreOf (steps_into (Some cell) s) new) (sym e') own)

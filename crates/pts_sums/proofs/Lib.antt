@@ -1,10 +1,10 @@
 pub mod ChunkPlaces
 pub mod ChunkWrites
+pub mod Found
 pub mod GroupFolds
 pub mod InTurn
 pub mod Items
 pub mod PutPlaces
-pub mod RangeCells
 pub mod ScanItems
 pub mod Singles
 pub mod Stretches

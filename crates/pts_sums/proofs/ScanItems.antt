@@ -12,12 +12,12 @@ use Rattle.pts_lowering.specs.declared.forms.Scan.{Scan}
 use Rattle.pts_store.specs.Stores.{Store, cells_in}
 use Rattle.pts_groupings.specs.Scans.{places_of}
 use Rattle.pts_groupings.specs.Sums.{all_given}
-use Rattle.pts_eval.specs.Runs.{range_in}
+use Rattle.pts_eval.specs.Cells.{range_in}
 use Rattle.pts_eval.specs.Sums.{combining, elements_by, elements_in_turn, item_of, order_of, positions_in, scanned}
 use Rattle.pts_store.specs.Writes.{Writes}
 use Rattle.pts_sums.specs.Places.{turn_place, AreWritten, Puts}
 use Rattle.pts_sums.proofs.InTurn.{all_read, all_written, thrown_away}
-use Rattle.pts_sums.proofs.RangeCells.{get-take, within}
+use Rattle.pts_elements.proofs.RangeCells.{get-take, within}
 
 module _ (functions : List FunctionInfo) (store : Store) (call : Scan) where
   -- the elements that both ranges have

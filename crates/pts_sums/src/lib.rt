@@ -10,7 +10,6 @@ mod groups;
 mod laws;
 mod operations;
 mod places;
-mod ranges;
 mod reductions;
 mod run;
 mod scans;

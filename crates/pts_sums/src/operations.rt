@@ -2,24 +2,14 @@
 
 ghost use Rattle.std.specs.Prelude.{◌≡◌};
 ghost use Rattle.pts_types.specs.Arithmetic.{bool_under};
-ghost use Rattle.pts_eval.specs.Sums.{combining, given_by, item_of, item_of_pair};
+ghost use Rattle.pts_eval.specs.Sums.{combining, item_of, item_of_pair};
 ghost use Rattle.pts_groupings.specs.Laws.{given};
 
 use crate::terms::{Combining, Transforming};
-use pts_eval::eval_fn;
+use pts_elements::call_function;
 use pts_lowering::Operation;
 use pts_program::Program;
 use pts_types::{ScalarOp, Value, apply};
-
-/// What the function of this number gives; None where it throws.
-fn call_function(program: &Program, function: u32, arguments: &[Value]) -> Option<Value>
-    ensures { result ≡ given_by program.now.functions function arguments.now }
-{
-    if function as usize >= program.functions().len() {
-        return Some(Value::U64(0));
-    }
-    eval_fn(program, function, arguments).ok()
-}
 
 /// What one of the operations with a word gives; None where it throws.
 fn apply_word(op: ScalarOp, x: Value, y: Value) -> Option<Value>

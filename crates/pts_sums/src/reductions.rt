@@ -1,7 +1,7 @@
 //! Sums of ranges: `reduce` and `transform_reduce`.
 
 ghost use Rattle.std.specs.Prelude.{◌≡◌, IfOk, IfSome, IsSomeAnd, length};
-ghost use Rattle.pts_eval.specs.Runs.{start_store};
+ghost use Rattle.pts_eval.specs.Cells.{start_store};
 ghost use Rattle.pts_eval.specs.Sums.{combining, items_in, reduction_at, steps_into, IsReduce, IsTransformReduce};
 ghost use Rattle.pts_store.specs.Laws.{SameShape};
 ghost use Rattle.pts_store.specs.Steps.{AreOf};
@@ -12,13 +12,14 @@ use crate::answers::{Outcome, SumAnswer};
 use crate::groupings::single_grouping;
 use crate::groups::Chunked;
 use crate::operations::{Operations, element_item, pair_item};
-use crate::ranges::{count_cells, read_element};
 use crate::run::Run;
 use crate::terms::{Combining, Terms};
 use pts_boards::{Gate, Pool};
-use pts_lowering::{CellIndex, LoweredCall, Reduction};
+use pts_conflict::Cleared;
+use pts_elements::{count_cells, read_element, write_into};
+use pts_lowering::{LoweredCall, Reduction};
 use pts_program::Program;
-use pts_store::{View, Writes};
+use pts_store::View;
 use pts_types::{NoMemory, Value};
 use std::alloc::Global;
 use std::thread::Threads;
@@ -82,23 +83,6 @@ fn count_items(program: &Program, call: &Reduction) -> u32
     }
 }
 
-// What a reduction writes: its sum, where it names a cell and has not thrown.
-#[tactic(auto, using(crate::proofs::Items::nothing_written, crate::proofs::Items::one_written))]
-fn write_into(
-    alloc: Global,
-    into: Option<CellIndex>,
-    sum: Option<Value>,
-) -> Result<Writes, NoMemory>
-    ensures { IfOk result (λ writes. AreOf (steps_into into sum) writes) }
-{
-    let mut writes = Writes::new(alloc);
-    let (Some(cell), Some(value)) = (into, sum) else {
-        return Ok(writes);
-    };
-    writes.set(cell.array, cell.index, value)?;
-    Ok(writes)
-}
-
 fn outcome_for(sum: Option<Value>) -> Outcome
     ensures { value_in result ≡ sum }
 {
@@ -154,14 +138,15 @@ pub fn reduce<R: Threads + Sync, V: View + Sync, G: Gate>(
     alloc: Global,
     gate: &G,
     pool: Pool,
-    program: &Program,
+    cleared: &Cleared,
     call: u32,
     view: &V,
 ) -> Result<SumAnswer, NoMemory>
-    requires form { IsSomeAnd (reduction_at program.now call) IsReduce }
-    requires arrays { SameShape (start_store program.now) (V.stands view.now) }
-    ensures { IfOk result (λ answer. IfSome (reduction_at program.now call) (λ reduction. IsSumAnswer program.now.functions (V.stands view.now) pool reduction answer)) }
+    requires form { IsSomeAnd (reduction_at cleared.now call) IsReduce }
+    requires arrays { SameShape (start_store cleared.now) (V.stands view.now) }
+    ensures { IfOk result (λ answer. IfSome (reduction_at cleared.now call) (λ reduction. IsSumAnswer cleared.now.functions (V.stands view.now) pool reduction answer)) }
 {
+    let program = cleared.program();
     let Some(reduction) = find_reduction(program, call) else {
         unreachable!()
     };
@@ -183,14 +168,15 @@ pub fn transform_reduce<R: Threads + Sync, V: View + Sync, G: Gate>(
     alloc: Global,
     gate: &G,
     pool: Pool,
-    program: &Program,
+    cleared: &Cleared,
     call: u32,
     view: &V,
 ) -> Result<SumAnswer, NoMemory>
-    requires form { IsSomeAnd (reduction_at program.now call) IsTransformReduce }
-    requires arrays { SameShape (start_store program.now) (V.stands view.now) }
-    ensures { IfOk result (λ answer. IfSome (reduction_at program.now call) (λ reduction. IsSumAnswer program.now.functions (V.stands view.now) pool reduction answer)) }
+    requires form { IsSomeAnd (reduction_at cleared.now call) IsTransformReduce }
+    requires arrays { SameShape (start_store cleared.now) (V.stands view.now) }
+    ensures { IfOk result (λ answer. IfSome (reduction_at cleared.now call) (λ reduction. IsSumAnswer cleared.now.functions (V.stands view.now) pool reduction answer)) }
 {
+    let program = cleared.program();
     let Some(reduction) = find_reduction(program, call) else {
         unreachable!()
     };

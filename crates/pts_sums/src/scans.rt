@@ -1,7 +1,7 @@
 //! The four scans.
 
 ghost use Rattle.std.specs.Prelude.{◌≡◌, ◌≢◌, ◌+◌, ◌-◌, ◌<◌, ◌^◌, min, IfOk, IfSome, IsSome, length, map, take};
-ghost use Rattle.pts_eval.specs.Runs.{range_in, start_store};
+ghost use Rattle.pts_eval.specs.Cells.{range_in, start_store};
 ghost use Rattle.pts_eval.specs.Sums.{combining, item_of, positions_in, scan_at, scanned};
 ghost use Rattle.pts_store.specs.Laws.{SameShape};
 ghost use Rattle.pts_store.specs.Stores.{Store};
@@ -11,11 +11,12 @@ ghost use Rattle.pts_sums.specs.Places.{AreWritten};
 use crate::answers::ScanAnswer;
 use crate::operations::{Operations, element_item};
 use crate::places::Scanner;
-use crate::ranges::{count_cells, read_element};
 use crate::run::Run;
 use crate::sequences::Sequence;
 use crate::terms::{Combining, Terms};
 use pts_boards::{Gate, Pool};
+use pts_conflict::Cleared;
+use pts_elements::{count_cells, read_element};
 use pts_lowering::{CellRange, LoweredCall, Scan};
 use pts_program::Program;
 use pts_store::{View, Writes};
@@ -160,14 +161,15 @@ pub fn scan<R: Threads + Sync, V: View + Sync, G: Gate>(
     alloc: Global,
     gate: &G,
     pool: Pool,
-    program: &Program,
+    cleared: &Cleared,
     call: u32,
     view: &V,
 ) -> Result<ScanAnswer, NoMemory>
-    requires form { IsSome (scan_at program.now call) }
-    requires arrays { SameShape (start_store program.now) (V.stands view.now) }
-    ensures { IfOk result (λ answer. IfSome (scan_at program.now call) (λ scan. IsScanAnswer program.now.functions (V.stands view.now) pool scan answer)) }
+    requires form { IsSome (scan_at cleared.now call) }
+    requires arrays { SameShape (start_store cleared.now) (V.stands view.now) }
+    ensures { IfOk result (λ answer. IfSome (scan_at cleared.now call) (λ scan. IsScanAnswer cleared.now.functions (V.stands view.now) pool scan answer)) }
 {
+    let program = cleared.program();
     let Some(scan) = find_scan(program, call) else {
         unreachable!()
     };

@@ -5,11 +5,11 @@ use Rattle.pts_run.specs.declared.status.Status.TheVariants as status
 use Rattle.std.specs.declared.io.ErrorKind.{ErrorKind}
 use Rattle.std.specs.declared.io.ErrorKind.TheVariants.{OutOfMemory}
 
--- 3 is for runs that end terminated
 abbrev pub number_of : Status → ℕ
 number_of status.Done = 0
 number_of status.Usage = 1
 number_of status.Refused = 2
+number_of status.Terminated = 3
 number_of status.ReadFault = 4
 number_of status.WriteFault = 5
 number_of status.NoMemory = 6

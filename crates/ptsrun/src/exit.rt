@@ -18,6 +18,7 @@ pub fn number_of(status: Status) -> u8
         Status::Done => 0,
         Status::Usage => 1,
         Status::Refused => 2,
+        Status::Terminated => 3,
         Status::ReadFault => 4,
         Status::WriteFault => 5,
         Status::NoMemory => NO_MEMORY,

@@ -4,6 +4,7 @@
 mod exit;
 
 use crate::exit::{number_of, number_without_words};
+use pts_boards::NoGate;
 use pts_io::{StdSink, StdSource};
 use pts_run::run_words;
 use std::process::ExitCode;
@@ -13,10 +14,12 @@ use std::{env, io};
 fn main(rt: HostRuntime) -> ExitCode {
     let number = match words(&rt) {
         Ok(words) => number_of(run_words(
+            &rt,
             rt.alloc(),
             &words,
             &mut StdSource::new(rt.stdin()),
             &mut StdSink::new(rt.stdout()),
+            &NoGate,
         )),
         Err(error) => number_without_words(error.kind()),
     };

@@ -1,6 +1,6 @@
 use Rattle.std.proofs.Common.{◌≡◌, None, take}
 use Rattle.std.specs.Prelude.{find}
-use Rattle.pts_eval.specs.Works.{is_later}
+use Rattle.pts_eval.specs.Built.{is_later}
 use Rattle.pts_eval.proofs.unbuilt.later.Given as goal
 
 -- all statements so far are built

@@ -6,8 +6,8 @@ use Rattle.pts_run.proofs.answer.run_script.Goals as goal
 
 pub returns-in-Ok-clause-ends : goal.returns-in-Ok-clause-ends
 returns-in-Ok-clause-ends g c = λ bytes reads.
-    rw c.finished.ensures
-    (run_ends c.args.pool bytes c.args.script.now c.program.result.now c.run_program-written.result _ _ reads (subst (IsRunnable c.args.script.now) (sym c.program.ensures.same) c.in-Ok.ensures.accepted) c.run_program-written.ensures.whole c.run_program-written.ensures.part)
+    rw c.run_finished.ensures
+    (run_ends c.args.pool bytes c.args.script.now c.in-Ok.cleared c.run_program-ran.result _ _ reads c.in-Ok.ensures.accepted c.run_program-ran.ensures.whole c.run_program-ran.ensures.part)
 
 pub returns-in-Err-clause-ends : goal.returns-in-Err-clause-ends
 returns-in-Err-clause-ends g c = λ bytes reads.

@@ -1,6 +1,6 @@
 use Rattle.std.proofs.Common.{ℕ, List, refl, sym, ◌∙◌}
 use Rattle.pts_run.specs.Output.{Reads, Refuses}
-use Rattle.pts_run.proofs.Endings.{known, for_same, wrote, wrote_done, wrote_refused, wrote_part, as_said, done, faulty, no_read_fault, no_usage, not_too_long}
+use Rattle.pts_run.proofs.Endings.{known, for_same, wrote, wrote_done, wrote_refused, wrote_terminated, wrote_part, as_said, done, thrown, faulty, no_read_fault, no_usage, not_too_long}
 use Rattle.pts_run.specs.declared.status.Status.TheVariants as status
 use Rattle.pts_run.specs.Writing.{status_of}
 use Rattle.pts_run.proofs.Exclusions.{decided}
@@ -26,6 +26,12 @@ returns-in-Ok-clause-done g c = λ command bytes held is left written whole.
     let reads = known _ bytes (λ (bs : List ℕ). Reads bs c.in-Ok.script) left c.in-Ok.ensures.reads in
     let ends = for_same c.in-Some.command command bytes c.answer.result _ _ ((c.in-Some.ensures command).1 is) (c.answer.ensures.ends bytes reads) in
     wrote_done command bytes held _ _ written c.answer.result (sym c.status_of.ensures ∙ whole) ends
+
+pub returns-in-Ok-clause-terminated : goal.returns-in-Ok-clause-terminated
+returns-in-Ok-clause-terminated g c = λ command bytes held is left written thrown_so.
+    let reads = known _ bytes (λ (bs : List ℕ). Reads bs c.in-Ok.script) left c.in-Ok.ensures.reads in
+    let ends = for_same c.in-Some.command command bytes c.answer.result _ _ ((c.in-Some.ensures command).1 is) (c.answer.ensures.ends bytes reads) in
+    wrote_terminated command bytes held _ _ written c.answer.result (sym c.status_of.ensures ∙ thrown_so) ends
 
 pub returns-in-Ok-clause-refused : goal.returns-in-Ok-clause-refused
 returns-in-Ok-clause-refused g c = λ command bytes held is left written refused.
@@ -73,6 +79,10 @@ pub returns-in-Err-Refused-clause-done : goal.returns-in-Err-Refused-clause-done
 returns-in-Err-Refused-clause-done g c = λ command bytes held is left written whole.
     absurd (c.refuse.ensures.not_done (done c.refuse.result (sym c.status_of-in-Err-Refused.ensures ∙ whole)))
 
+pub returns-in-Err-Refused-clause-terminated : goal.returns-in-Err-Refused-clause-terminated
+returns-in-Err-Refused-clause-terminated g c = λ command bytes held is left written over.
+    absurd (c.refuse.ensures.not_terminated (thrown c.refuse.result (sym c.status_of-in-Err-Refused.ensures ∙ over)))
+
 pub returns-in-Err-Refused-clause-refused : goal.returns-in-Err-Refused-clause-refused
 returns-in-Err-Refused-clause-refused g c = λ command bytes held is left written refused.
     let refuses = known _ bytes (λ (bs : List ℕ). Refuses command bs c.in-Err-Refused.refusal) left (c.read_script.ensures.refuses command _ (rw c.in-Err-Refused.field-0-is at c.in-Err-Refused.is)) in
@@ -94,6 +104,9 @@ returns-in-Err-Refused-clause-part_written g c = λ command bytes held is left w
 
 pub returns-in-Err-Refused-clause-read_to_the_end : goal.returns-in-Err-Refused-clause-read_to_the_end
 returns-in-Err-Refused-clause-read_to_the_end g c = λ whole. absurd (c.refuse.ensures.not_done (done c.refuse.result (sym c.status_of-in-Err-Refused.ensures ∙ whole)))
+
+pub returns-in-Err-Refused-clause-terminated_at_the_end : goal.returns-in-Err-Refused-clause-terminated_at_the_end
+returns-in-Err-Refused-clause-terminated_at_the_end g c = λ over. absurd (c.refuse.ensures.not_terminated (thrown c.refuse.result (sym c.status_of-in-Err-Refused.ensures ∙ over)))
 
 pub returns-in-Err-Refused-clause-refused_at_the_end : goal.returns-in-Err-Refused-clause-refused_at_the_end
 returns-in-Err-Refused-clause-refused_at_the_end g c = λ bytes left short refused.

@@ -1,0 +1,2 @@
+pub mod IntoCells
+pub mod RangeCells
