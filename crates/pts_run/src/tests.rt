@@ -1,6 +1,7 @@
 //! Command lines, and whole calls over sources and sinks in memory. Tables of scripts and their texts stand in `tests/`
 //! at the top, and go through the built program.
 
+mod gates;
 mod lists;
 mod points;
 mod values;
