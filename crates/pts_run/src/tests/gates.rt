@@ -4,7 +4,8 @@ use super::words;
 use crate::{Status, run_words};
 use pts_boards::{Gate, Passing};
 use pts_io::{MemorySink, MemorySource};
-use std::sync::atomic::{AtomicU64, Ordering::SeqCst};
+use std::sync::atomic::AtomicU64;
+use std::sync::atomic::Ordering::SeqCst;
 use std::test::Fail;
 
 // Counts the chunks that pass, and adds up their numbers.
@@ -24,7 +25,8 @@ impl Gate for Counter {
 }
 
 // Two calls of three chunks each, and a search that ends in its second chunk.
-const THREE_CALLS: &str = "pts 1; array a: u64[5] = iota 0 step 1; fn next(x: u64) -> u64 = x + 1; fn three(x: u64) -> bool = x == 3; for_each par a[0..5] next; reduce par a[0..5] init 0 plus; find_if par a[0..5] three;";
+const THREE_CALLS: &str =
+    "pts 1; array a: u64[5] = iota 0 step 1; fn next(x: u64) -> u64 = x + 1; fn three(x: u64) -> bool = x == 3; for_each par a[0..5] next; reduce par a[0..5] init 0 plus; find_if par a[0..5] three;";
 
 #[test]
 fn each_chunk_passes_the_gate_once(rt: HostRuntime) -> Result<(), Fail> {
