@@ -1,6 +1,6 @@
 //! What code gives.
 
-ghost use Rattle.std.specs.Prelude.{◌≡◌, ◌<◌, ◌≤◌, length, map, [], Ok, Err, MatchResult, unwrap_or};
+ghost use Rattle.std.specs.Prelude.{◌≡◌, ◌<◌, ◌≤◌, length, map, [], Ok, Err, MatchOption, MatchResult, unwrap_or};
 ghost use Rattle.arrayvec.specs.ArrayVec.{array_vec_len};
 ghost use Rattle.pts_types.specs.Arithmetic as arithmetic;
 ghost use Rattle.pts_code.specs.Codes as spec;
@@ -48,8 +48,21 @@ fn taken(note: Option<Result<Value, Thrown>>) -> Result<Value, Thrown>
     }
 }
 
+// The value of code without parts; None of any other.
+#[inline(always)]
+#[tactic(auto, using(crate::proofs::Given::gives_by_form))]
+fn leaf(frame: &Frame<'_>, code: &Code) -> Option<Value>
+    ensures { MatchOption result (Unit {0}) (λ value. spec.given frame.now code.now ≡ Ok value) }
+{
+    match code {
+        Code::Value(value) => Some(*value),
+        Code::Local(place) => local(frame.values, *place).ok(),
+        _ => None,
+    }
+}
+
 // Each form of code that goes into parts has a function with a small frame of its own, since calls and brackets nest
-// some nine thousand deep.
+// some nine thousand deep. Chains, which are most of the code, stand in `eval` itself.
 
 #[cycle(eval)]
 #[inline(never)]
@@ -89,15 +102,27 @@ fn eval_call(frame: &Frame<'_>, function: usize, arguments: &[Code]) -> Result<V
     eval(&inner, &frame.codes[function])
 }
 
+// An operand of a chain. Most are leaves, which want no call.
 #[cycle(eval)]
-#[inline(never)]
+#[inline(always)]
+fn eval_operand(frame: &Frame<'_>, code: &Code) -> Result<Value, Thrown>
+    ensures { result ≡ spec.given frame.now code.now }
+{
+    match leaf(frame, code) {
+        Some(value) => return Ok(value),
+        None => return eval(frame, code),
+    }
+}
+
+#[cycle(eval)]
+#[inline(always)]
 #[tactic(auto, using(crate::proofs::Chains::from_left_threw))]
 fn eval_chain(frame: &Frame<'_>, first: &Code, steps: &[Step]) -> Result<Value, Thrown>
     ensures { result ≡ outcomes.from_left (spec.given frame.now first.now) (map (spec.operation frame.now) steps.now) }
 {
-    let mut value = eval(frame, first)?;
+    let mut value = eval_operand(frame, first)?;
     for step in steps {
-        let operand = eval(frame, &step.operand)?;
+        let operand = eval_operand(frame, &step.operand)?;
         value = operated(step.op, value, operand)?;
     }
     Ok(value)
@@ -166,23 +191,29 @@ fn eval_choice(frame: &Frame<'_>, test: &Code, then: &Code, other: &Code) -> Res
 }
 
 /// What code gives in a frame.
+// Each arm returns by itself: at an end that they share, what they give would be copied once more, which took most of the time.
 #[cycle(eval)]
 #[tactic(auto, using(crate::proofs::Given::gives_by_form))]
 pub fn eval(frame: &Frame<'_>, code: &Code) -> Result<Value, Thrown>
     ensures { result ≡ spec.given frame.now code.now }
 {
     match code {
-        Code::Value(value) => Ok(*value),
-        Code::Local(place) => local(frame.values, *place),
-        Code::Note(place) => noted(frame.notes, *place),
-        Code::Throw(number) => Err(Thrown::Code(*number)),
-        Code::Call(function, arguments) => eval_call(frame, *function, arguments.as_slice()),
-        Code::Convert(to, operand) => eval_convert(frame, *to, operand.get()),
-        Code::Negate(operand) => eval_negate(frame, operand.get()),
-        Code::Not(operand) => eval_not(frame, operand.get()),
-        Code::Chain(first, steps) => eval_chain(frame, first.get(), steps.as_slice()),
-        Code::All(members) => eval_all(frame, members.as_slice()),
-        Code::Any(members) => eval_any(frame, members.as_slice()),
-        Code::If(test, then, other) => eval_choice(frame, test.get(), then.get(), other.get()),
+        Code::Value(value) => return Ok(*value),
+        Code::Local(place) => return local(frame.values, *place),
+        Code::Note(place) => return noted(frame.notes, *place),
+        Code::Throw(number) => return Err(Thrown::Code(*number)),
+        Code::Call(function, arguments) => return eval_call(frame, *function, arguments.as_slice()),
+        Code::Convert(to, operand) => return eval_convert(frame, *to, operand.get()),
+        Code::Negate(operand) => return eval_negate(frame, operand.get()),
+        Code::Not(operand) => return eval_not(frame, operand.get()),
+        Code::Chain(first, steps) => return eval_chain(frame, first.get(), steps.as_slice()),
+        Code::All(members) => return eval_all(frame, members.as_slice()),
+        Code::Any(members) => return eval_any(frame, members.as_slice()),
+        Code::If(test, then, other) => return eval_choice(
+            frame,
+            test.get(),
+            then.get(),
+            other.get(),
+        ),
     }
 }

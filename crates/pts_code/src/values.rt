@@ -72,7 +72,7 @@ pub fn negated(value: Value) -> Result<Value, Thrown>
 }
 
 /// An operation on two values; where they have none, the first stands for it.
-#[inline(never)]
+#[inline(always)]
 pub fn operated(op: ScalarOp, x: Value, y: Value) -> Result<Value, Thrown>
     ensures { result ≡ arithmetic.value_under op x y }
 {

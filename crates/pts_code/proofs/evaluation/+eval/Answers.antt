@@ -43,8 +43,8 @@ eval_any-eval-requires t c = (omega (arith, c.decreases, weight_below c.args.mem
 pub push_values-eval-requires : goal.push_values-eval-requires
 push_values-eval-requires t c = (omega (arith, c.decreases, weight_below c.args.arguments.now c.loop-argument.argument-index c.argument-item.result c.loop-argument-test.true c.argument-item.is), tt)
 
-pub eval_chain-eval-requires-in-loop-step : goal.eval_chain-eval-requires-in-loop-step
-eval_chain-eval-requires-in-loop-step t c = (omega (arith, c.decreases, step_weight_below c.args.steps.now c.loop-step.step-index c.step-item.result c.loop-step-test.true c.step-item.is), tt)
+pub eval_chain-eval_operand-requires-in-loop-step : goal.eval_chain-eval_operand-requires-in-loop-step
+eval_chain-eval_operand-requires-in-loop-step t c = (omega (arith, c.decreases, step_weight_below c.args.steps.now c.loop-step.step-index c.step-item.result c.loop-step-test.true c.step-item.is), tt)
 
 pub eval_call-eval-requires : goal.eval_call-eval-requires
 eval_call-eval-requires t c = (omega (arith, c.decreases, ap weight c.index-frame-function.is, weights_before c.args.frame.now.codes.now c.args.function c.index-frame-function.result (omega (arith, c.if-function-frame.false)) c.index-frame-function.is), tt)
@@ -108,7 +108,7 @@ eval_chain-returns-in_err-operand t c =
     let threw : from_left (given frame c.args.first.now) (map (operation frame) c.args.steps.now) ≡ Err e =
     c.loop-step.invariant
     ∙ next_of (from_left (Ok c.loop-step.value)) (operation frame) c.args.steps.now at item (item.op, Err e) c.loop-step-test.true c.step-item.is
-    (λ i. (item.op, (sym c.in_err-operand.was ∙ c.eval-in-loop-step.ensures) i))
+    (λ i. (item.op, (sym c.in_err-operand.was ∙ c.eval_operand-in-loop-step.ensures) i))
     ∙ from_left_threw e rest in
     search rules
 
@@ -122,7 +122,7 @@ eval_chain-returns-in_err-value-2 t c =
     let threw : from_left (given frame c.args.first.now) (map (operation frame) c.args.steps.now) ≡ Err e =
     c.loop-step.invariant
     ∙ next_of (from_left (Ok c.loop-step.value)) (operation frame) c.args.steps.now at item (item.op, Ok c.in_ok-operand.operand) c.loop-step-test.true c.step-item.is
-    (λ i. (item.op, (sym c.in_ok-operand.was ∙ c.eval-in-loop-step.ensures) i))
+    (λ i. (item.op, (sym c.in_ok-operand.was ∙ c.eval_operand-in-loop-step.ensures) i))
     ∙ ap (λ o. from_left o rest) (sym c.operated.ensures ∙ c.in_err-value-2.was)
     ∙ from_left_threw e rest in
     search rules

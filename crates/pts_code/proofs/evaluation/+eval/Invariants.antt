@@ -27,7 +27,10 @@ abbrev pub decreases-eval_not : goal.decreases-eval_not
 decreases-eval_not l = weights l.frame.now.codes.now + weight l.operand.now + 1
 
 abbrev pub decreases-eval_chain : goal.decreases-eval_chain
-decreases-eval_chain l = weights l.frame.now.codes.now + weight l.first.now + step_weights l.steps.now + 1
+decreases-eval_chain l = weights l.frame.now.codes.now + weight l.first.now + step_weights l.steps.now + 2
+
+abbrev pub decreases-eval_operand : goal.decreases-eval_operand
+decreases-eval_operand l = weights l.frame.now.codes.now + weight l.code.now + 1
 
 abbrev pub decreases-eval_choice : goal.decreases-eval_choice
 decreases-eval_choice l = weights l.frame.now.codes.now + weight l.test.now + weight l.then.now + weight l.other.now + 1
