@@ -1,6 +1,7 @@
 pub mod ChunkPlaces
 pub mod ChunkWrites
 pub mod Found
+pub mod GatheredItems
 pub mod GroupFolds
 pub mod InTurn
 pub mod Items

@@ -1,10 +1,12 @@
 //! `reduce`, `transform_reduce` and the four scans, as a program calls them: each reads a view and gives back what it writes.
-//! `terms` says what is summed, `folds` and `groups` fold it by chunks and groups of these, `places` and `sequences` write the
-//! places of scans; `reductions` and `scans` bring them to a program and a view; `laws` ties the answers to the standard.
+//! `terms` says what is summed, `gathered` holds items that are read twice, `folds` and `groups` fold them by chunks and groups of
+//! these, `places` and `sequences` write the places of scans; `reductions` and `scans` bring them to a program and a view; `laws`
+//! ties the answers to the standard.
 #![tactic(auto)]
 
 mod answers;
 mod folds;
+mod gathered;
 mod groupings;
 mod groups;
 mod laws;

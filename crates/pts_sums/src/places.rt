@@ -10,7 +10,6 @@ ghost use Rattle.pts_eval.specs.Sums.{order_of};
 
 use crate::folds::{Fold, add_item, begin, chunk_ends, fold_chunk, outcome_of};
 use crate::terms::Terms;
-use pts_boards::{Gate, Passing};
 use pts_lowering::ScanOrder;
 use pts_store::Writes;
 use pts_types::{NoMemory, Policy, Value};
@@ -111,10 +110,8 @@ impl<T: Terms> Scanner<'_, T> {
     }
 
     /// Writes all places, chunk by chunk. False where one of them is a throw.
-    pub fn write_chunks<G: Gate>(
+    pub fn write_chunks(
         &self,
-        gate: &G,
-        call: u32,
         size: u32,
         init: Option<Value>,
         writes: &mut Writes,
@@ -127,10 +124,6 @@ impl<T: Terms> Scanner<'_, T> {
         let chunks = self.terms.count().div_ceil(size);
         let mut start = begin(init);
         for number in 0..chunks {
-            gate.pass(Passing::Chunk {
-                call,
-                chunk: number,
-            });
             if !self.write_chunk(size, start, number, writes)? {
                 return Ok(false);
             }

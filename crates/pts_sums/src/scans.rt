@@ -26,14 +26,14 @@ use std::thread::Threads;
 
 // The items of a scan that reads all its elements before it writes; there are `count`.
 #[derive(Drop)]
-struct ScanTerms<'a, V> {
+struct ScanTerms<'a, 'b, V> {
     program: &'a Program,
     view: &'a V,
-    call: &'a Scan,
+    call: &'b Scan,
     count: u32,
 }
 
-impl<V: View> Combining for ScanTerms<'_, V> {
+impl<V: View> Combining for ScanTerms<'_, '_, V> {
     ghost op = { λ t. combining t.program.now.functions t.call.now.operation };
 
     fn combine(&self, x: Value, y: Value) -> Option<Value> {
@@ -46,7 +46,7 @@ impl<V: View> Combining for ScanTerms<'_, V> {
     }
 }
 
-impl<V: View> Terms for ScanTerms<'_, V> {
+impl<V: View> Terms for ScanTerms<'_, '_, V> {
     ghost condition = { λ t. t.count ≡ positions_in (V.stands t.view.now) t.call.now };
 
     ghost items = { λ t. map (item_of t.program.now.functions t.call.now.transform) (take (positions_in (V.stands t.view.now) t.call.now) (range_in (V.stands t.view.now) t.call.now.source)) };
@@ -104,15 +104,16 @@ impl<V: View, G: Gate> Run<'_, V, G> {
             call,
             count: count_positions(self.program, call.source, call.target),
         };
+        let gathered = self.gather(alloc, &terms)?;
         let scanner = Scanner {
-            terms: &terms,
+            terms: &gathered,
             order: call.order,
             array: call.target.array,
             first: call.target.low,
         };
         let mut writes = Writes::new(alloc);
         let size = self.pool.chunk;
-        if scanner.write_chunks(self.gate, self.call, size, call.initial, &mut writes)? {
+        if scanner.write_chunks(size, call.initial, &mut writes)? {
             Ok(Some(writes))
         } else {
             Ok(None)

@@ -11,7 +11,7 @@ ghost use Rattle.pts_eval.specs.Sums.{elements_in_turn, order_of};
 use crate::folds::{Fold, add_item, begin, outcome_of};
 use crate::run::Run;
 use crate::terms::Transforming;
-use pts_boards::{Gate, Passing};
+use pts_boards::Gate;
 use pts_lowering::{CellRange, ScanOrder};
 use pts_store::{View, Writes};
 use pts_types::{NoMemory, Value};
@@ -84,7 +84,7 @@ impl<T: Transforming> Sequence<'_, T> {
         let mut layer = run.view.layer(alloc);
         let mut so_far = begin(init);
         for at in 0..self.count {
-            pass_chunk(run, at);
+            run.pass_before(at);
             let element = layer.cell(self.source.array, self.source.low + at);
             let turn = self.turn(so_far, element, at);
             let Some(value) = turn.place else {
@@ -94,16 +94,5 @@ impl<T: Transforming> Sequence<'_, T> {
             so_far = turn.so_far;
         }
         Ok(Some(layer.into_writes()))
-    }
-}
-
-// Passes a chunk before its first position.
-fn pass_chunk<V, G: Gate>(run: &Run<'_, V, G>, at: u32) {
-    let size = run.pool.chunk;
-    if at % size == 0 {
-        run.gate.pass(Passing::Chunk {
-            call: run.call,
-            chunk: at / size,
-        });
     }
 }
