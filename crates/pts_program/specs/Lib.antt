@@ -4,6 +4,7 @@ pub mod Callings
 pub mod Exactness
 pub mod Faults
 pub mod Findings
+pub mod Globals
 pub mod Holdings
 pub mod Lists
 pub mod Matching

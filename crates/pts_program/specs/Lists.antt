@@ -13,8 +13,6 @@ use Rattle.pts_constants.specs.Texts.{texts_of}
 use Rattle.pts_constants.specs.Blocks.{blocks_of}
 use Rattle.pts_lowering.specs.Blocks.{lowered_blocks}
 use Rattle.pts_lowering.specs.Forms.{lowered_calls}
-use Rattle.pts_points.specs.declared.point.CallInfo.{CallInfo}
-use Rattle.pts_points.specs.declared.point.PointInfo.{PointInfo}
 use Rattle.pts_points.specs.Points.{array_at, calls_of, points_of}
 use Rattle.pts_starts.specs.Starts.{start_cells}
 use Rattle.pts_program.specs.declared.info.ArrayInfo.{ArrayInfo}

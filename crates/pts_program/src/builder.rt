@@ -16,6 +16,7 @@ use crate::fault::BuildFault;
 use crate::lists::{Lists, add_item};
 use crate::program::Program;
 use crate::standing::Standing;
+use crate::steps::steps_of;
 use pts_tree::{Item, Script};
 use std::alloc::Global;
 
@@ -71,5 +72,6 @@ pub fn build(alloc: Global, script: &Script) -> Result<Program, BuildFault>
     for item in script.items.as_slice() {
         builder.add(alloc, item)?;
     }
-    Ok(Program::new(builder.lists))
+    let steps = steps_of(alloc, &builder.lists)?;
+    Ok(Program::new(builder.lists, steps))
 }

@@ -11,6 +11,7 @@ mod lists;
 mod program;
 mod promises;
 mod standing;
+mod steps;
 
 pub use builder::build;
 pub use fault::BuildFault;
@@ -29,3 +30,4 @@ pub use promises::{
 pub use pts_code::FunctionInfo;
 pub use pts_constants::{BlockInfo, CallText};
 pub use pts_points::{Branch, CallInfo, PointForm, PointInfo};
+pub use pts_steps::Step;

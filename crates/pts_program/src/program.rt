@@ -1,6 +1,10 @@
 //! Checked programs.
 
 ghost use Rattle.std.specs.Prelude.{◌≡◌, ◌<◌, Some, length, slice_get};
+ghost use Rattle.pts_constants.specs.declared.texts.CallText.{CallText as TextTree};
+ghost use Rattle.pts_steps.specs.Steps.{AreStepsOf};
+ghost use Rattle.pts_steps.specs.Texts.{AreAllSteps};
+ghost use Rattle.pts_program.specs.Globals.{globals_of};
 ghost use Rattle.pts_program.specs.Lists as spec;
 
 use crate::info::{ArrayInfo, StatementInfo};
@@ -9,17 +13,22 @@ use pts_code::{Codes, FunctionInfo};
 use pts_constants::{BlockInfo, CallText};
 use pts_lowering::{LoweredBlock, LoweredCall};
 use pts_points::{CallInfo, PointInfo};
+use pts_steps::Step;
+use sqlite_items::Items;
 use std::marker::Model;
 
 /// A script that breaks no rule, as lists: names are resolved, kinds agree, functions call earlier ones only, and each index
-/// is in its array at every position.
+/// is in its array at every position. What the points of its loops compute is kept with the lists.
 #[derive(Drop)]
 pub struct Program {
     lists: Lists,
+    steps: Items<Items<Step>>,
 }
 
 impl Model for Program {
     ghost use Rattle.std.specs.Coded.{codes};
+    ghost use Rattle.pts_steps.specs.Texts.{AreAllSteps};
+    ghost use Rattle.pts_program.specs.Globals.{globals_of};
     ghost use Rattle.pts_program.specs.Lists.{IsProgram};
     ghost use Rattle.pts_program.specs.declared.lists.Lists.{Lists};
     ghost use Rattle.pts_tree.specs.contracts.block.TaskStmt as tasks;
@@ -33,15 +42,16 @@ impl Model for Program {
 
     ghost view = { λ p. p.lists };
 
-    ghost invariant = { λ p. IsProgram p.lists };
+    ghost invariant = { λ p. IsProgram p.lists × AreAllSteps (globals_of p.lists) p.lists.texts p.steps };
 }
 
 impl Program {
-    pub(crate) fn new(lists: Lists) -> Program
-        requires { spec.IsProgram lists }
+    pub(crate) fn new(lists: Lists, steps: Items<Items<Step>>) -> Program
+        requires program { spec.IsProgram lists }
+        requires steps { AreAllSteps (globals_of lists) lists.texts steps }
         ensures { result ≡ lists }
     {
-        Program { lists }
+        Program { lists, steps }
     }
 
     /// The lists are those of a script that breaks no rule, so that every law of programs holds of them.
@@ -128,5 +138,16 @@ impl Program {
         ensures { Some result.now ≡ slice_get self.now.texts call }
     {
         &self.lists.texts.as_slice()[call as usize]
+    }
+
+    /// What is done at each point of a loop, by the number of its call, with the code of what is computed there: one step for
+    /// each point, in order. A call has none.
+    pub fn steps(&self, call: u32) -> &[Step]
+        requires { call < length self.now.texts }
+        ensures { (text : TextTree) → slice_get self.now.texts call ≡ Some text → AreStepsOf (globals_of self.now) text result.now }
+    {
+        let place = call as usize;
+        let steps = self.steps.as_slice();
+        steps[place].as_slice()
     }
 }

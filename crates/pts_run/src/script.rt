@@ -2,7 +2,7 @@
 
 ghost use Rattle.std.specs.Prelude.{◌≡◌, ◌≢◌, ◌≤◌, ℕ, List, length, Err, IfOk, IfSome, OnOk};
 ghost use Rattle.std.specs.Io.KnownBytes.{IsAtEnd};
-ghost use Rattle.pts_io.specs.Streams.{HasRisen};
+ghost use Rattle.pts_io.specs.Streams.{HasRisen, KeepsAnEnd};
 ghost use Rattle.pts_syntax.specs.Syntax.{Explains, IsSpelled};
 ghost use Rattle.pts_run.specs.declared.words.Command.{Command};
 ghost use Rattle.pts_run.specs.Output.{Reads, Refuses, script_limit};
@@ -35,6 +35,7 @@ pub fn read_script<S: Source>(alloc: Global, source: &mut S) -> Result<Script, S
         → IfSome (S.left source.old) (λ bytes. Refuses command bytes reason) }
     ensures refused_at_the_end { (reason : Refusal) → result ≡ Err (ScriptFault.Refused reason) → reason ≢ Refusal.TooLong → IsAtEnd (S.left source.new) }
     ensures fault { result ≡ Err ScriptFault.Source → HasRisen (S.faults source.old) (S.faults source.new) }
+    ensures rest { KeepsAnEnd (S.left source.old) (S.left source.new) }
     ensures counts { S.faults source.old ≤ S.faults source.new }
 {
     let bytes = match read_all(alloc, source, SCRIPT_LIMIT) {

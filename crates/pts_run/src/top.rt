@@ -2,7 +2,7 @@
 
 ghost use Rattle.std.specs.Prelude.{◌≡◌, ◌≢◌, ℕ, ◌<◌, ◌≤◌, ◌↔◌, List, length, map, Some, string_bytes};
 ghost use Rattle.std.specs.Io.KnownBytes.{IsAtEnd};
-ghost use Rattle.pts_io.specs.Streams.{HasRisen};
+ghost use Rattle.pts_io.specs.Streams.{HasRisen, KeepsAnEnd};
 ghost use Rattle.pts_run.specs.Output.{IsDecided, Wrote, WrotePart, script_limit};
 ghost use Rattle.pts_run.specs.Words.{IsCommand};
 ghost use Rattle.pts_run.specs.Writing as spec;
@@ -60,6 +60,9 @@ pub fn run_words<R: Threads + Sync, S: Source, K: Sink, G: Gate>(
     ensures terminated_at_the_end { result ≡ Status.Terminated → IsAtEnd (S.left source.new) }
     ensures refused_at_the_end { (bytes : List ℕ) → S.left source.old ≡ Some bytes → length bytes ≤ script_limit
         → result ≡ Status.Refused → IsAtEnd (S.left source.new) }
+
+    // Whatever the answer is, what the source has left is an end of what it had.
+    ensures rest { KeepsAnEnd (S.left source.old) (S.left source.new) }
 
     // Where nothing fails outside, the bytes decide between a refusal and a run, and no other answer comes but want of memory.
     ensures complete { (command : Command) (bytes : List ℕ) → IsCommand (map string_bytes words.now) command → S.left source.old ≡ Some bytes

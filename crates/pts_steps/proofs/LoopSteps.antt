@@ -61,14 +61,14 @@ pub texts_turn : (names : Scope) (ts : List CallText) (at : ℕ) (t : CallText) 
 texts_turn names ts at t ss s less is h k =
     subst (λ us. AreAllSteps names us (ss ++ s ∷ [])) (ap (λ u. take at ts ++ u ∷ []) is ∙ sym (take_more ts at t less)) (steps_push names (take at ts) ss t s h k)
 
-pub steps_found : (names : Scope) (ts : List CallText) (ss : List (List Step)) (k : ℕ) (t : CallText) (s : List Step) → AreAllSteps names ts ss
-    → slice_get ts k ≡ Some t → s ≡ get_or ss k s → AreStepsOf names t s
-steps_found names [] [] k t s h e f = absurd (none-some t e)
-steps_found names [] (u ∷ ss) k t s h e f = absurd h
-steps_found names (v ∷ ts) [] k t s h e f = absurd h
-steps_found names (v ∷ ts) (u ∷ ss) zero t s h e f =
-    subst (λ z. AreStepsOf names z s) (ap (λ o. unwrap_or o v) e) (subst (AreStepsOf names v) (sym f) h.0)
-steps_found names (v ∷ ts) (u ∷ ss) (suc k) t s h e f = steps_found names ts ss k t s h.1 e f
+pub steps_at : (names : Scope) (ts : List CallText) (ss : List (List Step)) → AreAllSteps names ts ss
+    → (k : ℕ) (t : CallText) (s : List Step) → slice_get ts k ≡ Some t → slice_get ss k ≡ Some s → AreStepsOf names t s
+steps_at names [] [] h k t s e f = absurd (none-some t e)
+steps_at names [] (u ∷ ss) h k t s e f = absurd h
+steps_at names (v ∷ ts) [] h k t s e f = absurd h
+steps_at names (v ∷ ts) (u ∷ ss) h zero t s e f =
+    subst (λ z. AreStepsOf names z s) (ap (λ o. unwrap_or o v) e) (subst (AreStepsOf names v) (ap (λ o. unwrap_or o u) f) h.0)
+steps_at names (v ∷ ts) (u ∷ ss) h (suc k) t s e f = steps_at names ts ss h.1 k t s e f
 
 pub as_many_texts : (names : Scope) (ts : List CallText) (ss : List (List Step)) → AreAllSteps names ts ss → length ss ≡ length ts
 as_many_texts names [] [] h = refl

@@ -6,11 +6,20 @@ ghost use Rattle.pts_rules.specs.Known.{Scope};
 ghost use Rattle.pts_points.specs.Pieces.{Point};
 ghost use Rattle.pts_rules.specs.Parts.{Loop};
 ghost use Rattle.pts_constants.specs.Resolved.{resolved_loop};
+ghost use Rattle.pts_constants.specs.declared.texts.CallText.{CallText};
 ghost use Rattle.pts_points.specs.Points.{context_of, form_of, info, loop_piece};
 ghost use Rattle.pts_points.specs.Standings.{IsNoted, StandsBehind};
 ghost use Rattle.pts_steps.specs.declared.step.Step.{Step};
 ghost use Rattle.pts_steps.specs.Shown.{IsLoopOf};
-ghost use Rattle.pts_steps.specs.Steps.{AreSteps, Fits, form_shown, loop_points};
+ghost use Rattle.pts_steps.specs.Steps.{AreSteps, AreStepsOf, Fits, form_shown, loop_points};
+ghost use Rattle.pts_steps.specs.Texts.{AreAllSteps};
+
+/// As many lists of steps as texts, and each has those of the text of its number.
+pub fn each_text_has_its_steps()
+    ensures count { (names : Scope) (texts : List CallText) (all : List (List Step)) → AreAllSteps names texts all → length all ≡ length texts }
+    ensures each { (names : Scope) (texts : List CallText) (all : List (List Step)) → AreAllSteps names texts all
+        → (k : ℕ) (text : CallText) (steps : List Step) → slice_get texts k ≡ Some text → slice_get all k ≡ Some steps → AreStepsOf names text steps }
+{}
 
 /// There are as many steps as points, and each does what is done at its point.
 pub fn steps_fit_their_points()

@@ -15,8 +15,8 @@ mod tests;
 
 pub use globals::Globals;
 pub use laws::{
-    loops_show_the_same_without_constants, points_of_loops_stand_behind_what_they_need,
-    steps_fit_their_points,
+    each_text_has_its_steps, loops_show_the_same_without_constants,
+    points_of_loops_stand_behind_what_they_need, steps_fit_their_points,
 };
-pub use loops::{LoopCodes, compile_loops};
+pub use loops::compile_loops;
 pub use step::Step;

@@ -1,7 +1,6 @@
-//! The calls and loops of a program, with what the points of the loops compute.
+//! What the points of the loops of a program compute.
 
-ghost use Rattle.std.specs.Prelude.{◌≡◌, ◌<◌, [], IfOk, OnOk, Some, length, slice_get};
-ghost use Rattle.pts_constants.specs.declared.texts.CallText.{CallText};
+ghost use Rattle.std.specs.Prelude.{◌≡◌, [], IfOk, OnOk};
 ghost use Rattle.pts_steps.specs.Building as spec;
 ghost use Rattle.pts_steps.specs.Steps.{AreSteps, AreStepsOf, loop_points};
 ghost use Rattle.pts_steps.specs.Texts.{AreAllSteps};
@@ -10,37 +9,11 @@ use crate::builder::Builder;
 use crate::globals::Globals;
 use crate::step::Step;
 use pts_constants::CallText;
-use pts_rules::Scope;
 use pts_tree::Loop;
 use pts_types::NoMemory;
 use sqlite_items::Items;
 use std::alloc::Global;
-use std::marker::Model;
 use std::mem::replace;
-
-/// Calls and loops without constants in text order, those of a program where its arrays and functions are named, with what
-/// the points of the loops compute.
-#[derive(Drop)]
-pub struct LoopCodes {
-    names: Scope,
-    texts: Items<CallText>,
-    steps: Items<Items<Step>>,
-}
-
-impl Model for LoopCodes {
-    ghost use Rattle.std.specs.Coded.{codes};
-    ghost use Rattle.pts_tree.specs.contracts.expr.Expr as exprs;
-    ghost use Rattle.pts_tree.specs.contracts.loops.BodyStmt as stmts;
-    ghost use Rattle.pts_steps.specs.Texts.{AreAllSteps, LoopTexts};
-
-    ghost Value = { LoopTexts };
-
-    ghost coded = { Prim.hlevel (codes, exprs.the_row.coded, stmts.the_row.coded) };
-
-    ghost view = { λ c. record { names = c.names; texts = c.texts } };
-
-    ghost invariant = { λ c. AreAllSteps c.names c.texts c.steps };
-}
 
 impl Builder {
     // The steps of a loop, between others.
@@ -89,39 +62,15 @@ fn all_steps(
     Ok(all)
 }
 
-/// The calls and loops of a program where these are the names of its arrays and functions, with what the points of the loops
-/// compute.
+/// The steps of each of these calls and loops in order, where these are the names of the arrays and functions: for a loop one
+/// for each of its points, and none for a call.
 pub fn compile_loops(
     alloc: Global,
     globals: Globals,
-    texts: Items<CallText>,
-) -> Result<LoopCodes, NoMemory>
-    ensures { IfOk result (λ codes. codes ≡ record { names = globals; texts = texts }) }
+    texts: &[CallText],
+) -> Result<Items<Items<Step>>, NoMemory>
+    ensures { IfOk result (AreAllSteps globals texts.now) }
 {
     let mut builder = globals.into_builder(alloc);
-    let steps = all_steps(alloc, &mut builder, texts.as_slice())?;
-    let Builder { globals: names, .. } = builder;
-    Ok(LoopCodes {
-        names,
-        texts,
-        steps,
-    })
-}
-
-impl LoopCodes {
-    /// The calls and loops in order.
-    pub fn texts(&self) -> &[CallText]
-        ensures { result.now ≡ self.now.texts }
-    {
-        self.texts.as_slice()
-    }
-
-    /// The steps of a loop by its number among the calls and loops, one for each of its points; none of a call.
-    pub fn steps(&self, call: usize) -> &[Step]
-        requires { call < length self.now.texts }
-        ensures { (text : CallText) → slice_get self.now.texts call ≡ Some text → AreStepsOf self.now.names text result.now }
-    {
-        let steps = self.steps.as_slice();
-        steps[call].as_slice()
-    }
+    all_steps(alloc, &mut builder, texts)
 }

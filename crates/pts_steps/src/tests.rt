@@ -1,7 +1,7 @@
 //! One loop, and values that were worked out by hand.
 
 use crate::globals::Globals;
-use crate::loops::{LoopCodes, compile_loops};
+use crate::loops::compile_loops;
 use crate::step::Step;
 use pts_code::Frame;
 use pts_constants::CallText;
@@ -64,40 +64,39 @@ fn text(alloc: Global) -> Result<CallText, AllocError> {
     }))
 }
 
-fn compiled(alloc: Global) -> Result<LoopCodes, Fail> {
+fn compiled(alloc: Global) -> Result<Items<Items<Step>>, Fail> {
     let globals = Globals::new(alloc).with_functions(alloc, &[])?;
     let globals = globals.with_array(alloc, &name(alloc, "a")?, Kind::U64)?;
     let mut texts = Items::new(alloc);
     texts.push(text(alloc)?)?;
-    Ok(compile_loops(alloc, globals, texts)?)
+    Ok(compile_loops(alloc, globals, texts.as_slice())?)
 }
 
 // What a step gives at a position with this index and these notes.
 fn value(
-    codes: &LoopCodes,
+    all: &[Items<Step>],
     at: usize,
     index: i64,
     notes: &[Option<Result<Value, Thrown>>],
 ) -> Option<Option<Result<Value, Thrown>>> {
-    if codes.texts().is_empty() {
-        return None;
-    }
+    let steps = all.get(0)?;
     let frame = Frame {
         codes: &[],
         values: &[Value::I64(index)],
         notes,
     };
-    Some(codes.steps(0).get(at)?.value(&frame))
+    Some(steps.as_slice().get(at)?.value(&frame))
 }
 
 #[test]
 fn a_loop_computes_its_values(rt: HostRuntime) -> Result<(), Fail> {
-    let codes = compiled(rt.alloc())?;
+    let all = compiled(rt.alloc())?;
+    let all = all.as_slice();
     let read = Some(Ok(Value::U64(41)));
     let noted = Some(Ok(Value::U64(42)));
-    assert_eq!(rt; value(&codes, 0, 3, &[]), Some(None));
-    assert_eq!(rt; value(&codes, 1, 3, &[read]), Some(noted));
-    assert_eq!(rt; value(&codes, 2, 3, &[read, noted]), Some(noted));
-    assert_eq!(rt; value(&codes, 3, 3, &[read, noted]), None);
+    assert_eq!(rt; value(all, 0, 3, &[]), Some(None));
+    assert_eq!(rt; value(all, 1, 3, &[read]), Some(noted));
+    assert_eq!(rt; value(all, 2, 3, &[read, noted]), Some(noted));
+    assert_eq!(rt; value(all, 3, 3, &[read, noted]), None);
     Ok(())
 }

@@ -7,7 +7,7 @@ use pts_io::MemorySource;
 use pts_program::build;
 use pts_tree::{BodyStmt, Expr, Item, Name, Script};
 use pts_types::{Kind, Thrown, Value};
-use std::alloc::Global;
+use std::alloc::{AllocError, Global};
 use std::fmt::Write;
 use std::test::Fail;
 
@@ -44,41 +44,47 @@ fn value_of(alloc: Global, expr: &str, reads: &[Outcome]) -> Result<Outcome, Fai
     Ok(eval_expr(&program, Kind::I64, expr, &[index], reads))
 }
 
+// What elements gave: a number each, and any other word for a throw.
+fn outcomes_of(alloc: Global, words: &str) -> Result<Vec<Outcome>, Fail> {
+    let mut outcomes = Vec::new(alloc);
+    for word in words.split(' ') {
+        let outcome = match word.parse::<i64>() {
+            Ok(number) => Ok(Value::I64(number)),
+            Err(_) => Err(Thrown::Code(9)),
+        };
+        outcomes.push(outcome).map_err(AllocError::from)?;
+    }
+    Ok(outcomes)
+}
+
 // The first of the expressions that has another value.
 fn first_other<'a>(
     alloc: Global,
-    table: &[(&'a str, &[Outcome], Outcome)],
+    table: &[(&'a str, &str, &str)],
 ) -> Result<Option<&'a str>, Fail> {
-    for (expr, reads, value) in table {
-        if value_of(alloc, expr, reads)? != *value {
+    for (expr, words, wanted) in table {
+        let value = value_of(alloc, expr, &outcomes_of(alloc, words)?)?;
+        if format!(in alloc; "{value:?}")?.as_str() != *wanted {
             return Ok(Some(expr));
         }
     }
     Ok(None)
 }
 
+// Expressions, what their elements gave, and their values. All of this is text, since a long table of values takes the prover minutes.
+const VALUES: [(&str, &str, &str); 8] = [
+    ("i * 2 - 1", "", "Ok(I64(5))"),
+    ("a[i] - i", "7", "Ok(I64(4))"),
+    ("a[i + 1] / a[0]", "7 -2", "Ok(I64(-3))"),
+    ("h(a[0])", "7", "Ok(I64(3))"),
+    ("1 / 0 + a[0]", "throw", "Err(DivZero)"),
+    ("a[0] + 1 / 0", "throw", "Err(Code(9))"),
+    ("if i < 3 then a[0] else a[1]", "throw 7", "Ok(I64(7))"),
+    ("a[0] * 2", "9223372036854775807", "Err(Overflow)"),
+];
+
 #[test]
 fn expressions_have_values(rt: HostRuntime) -> Result<(), Fail> {
-    let seven = Ok(Value::I64(7));
-    let thrown = Err(Thrown::Code(9));
-    let table: [(&str, &[Outcome], Outcome); 8] = [
-        ("i * 2 - 1", &[], Ok(Value::I64(5))),
-        ("a[i] - i", &[seven], Ok(Value::I64(4))),
-        (
-            "a[i + 1] / a[0]",
-            &[seven, Ok(Value::I64(-2))],
-            Ok(Value::I64(-3)),
-        ),
-        ("h(a[0])", &[seven], Ok(Value::I64(3))),
-        ("1 / 0 + a[0]", &[thrown], Err(Thrown::DivZero)),
-        ("a[0] + 1 / 0", &[thrown], thrown),
-        ("if i < 3 then a[0] else a[1]", &[thrown, seven], seven),
-        (
-            "a[0] * 2",
-            &[Ok(Value::I64(i64::MAX))],
-            Err(Thrown::Overflow),
-        ),
-    ];
-    assert_eq!(rt; first_other(rt.alloc(), &table)?, None);
+    assert_eq!(rt; first_other(rt.alloc(), &VALUES)?, None);
     Ok(())
 }
