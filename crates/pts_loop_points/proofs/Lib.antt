@@ -1,0 +1,9 @@
+pub mod BodyArrays
+pub mod ElementArrays
+pub mod GlobalNames
+pub mod IndexElements
+pub mod LoopFits
+pub mod Loops
+pub mod Moved
+pub mod Numbers
+pub mod Shown

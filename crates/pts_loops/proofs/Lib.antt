@@ -1,0 +1,11 @@
+pub mod Tied
+pub mod PointTurns
+pub mod Ready
+pub mod LoopTurns
+pub mod Gathered
+pub mod PositionTurns
+pub mod FirstTurns
+pub mod Staying
+pub mod Assigned
+pub mod Singles
+pub mod Ended

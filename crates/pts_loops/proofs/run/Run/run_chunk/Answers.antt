@@ -1,0 +1,10 @@
+use Rattle.std.proofs.Common.{◌+◌}
+use Rattle.pts_loops.specs.Turns.{IsAtPosition}
+use Rattle.pts_loops.proofs.LoopTurns.{goes_as}
+use Rattle.pts_loops.proofs.run.Run.run_chunk.Goals as goal
+
+pub returns-then-not-branch-clause-goes : goal.returns-then-not-branch-clause-goes
+returns-then-not-branch-clause-goes c =
+    let now = c.args.self.now in
+    goes_as now c.args.turn.now.layer.below c.loop-p.turn.layer.below (λ b. IsAtPosition now b (c.loop-p.p + 1)) _ _ c.run_position.new.turn
+    c.loop-p.invariant.1 c.if-not-branch.true c.in_ok-run_position.ensures.goes

@@ -1,0 +1,5 @@
+pub mod Ends
+pub mod Inductions
+pub mod Laws
+pub mod LiveOuts
+pub mod Passes
