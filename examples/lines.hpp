@@ -4,6 +4,7 @@
 
 #include <algorithm>
 #include <array>
+#include <cstddef>
 #include <cstdint>
 #include <cstdlib>
 #include <exception>
@@ -46,6 +47,13 @@ void print(const char* name, const Cells& cells) {
     std::cout << ++statements << ": print " << name;
     for (const auto& cell : cells) std::cout << ' ' << cell;
     std::cout << '\n';
+}
+
+// The numbers from 0 to below an end, over which a loop of the standard algorithms goes.
+inline std::vector<std::size_t> indices(std::size_t end) {
+    std::vector<std::size_t> turns(end);
+    std::iota(turns.begin(), turns.end(), 0);
+    return turns;
 }
 
 inline constexpr auto add = [](std::int64_t x, std::int64_t y) {
