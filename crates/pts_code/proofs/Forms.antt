@@ -22,8 +22,9 @@ use Rattle.pts_code.specs.Codes.{Sight, gives, call_of}
 use Rattle.pts_code.specs.Compiling.{IsCode, AreArguments, AreTruths, AreSteps, at_spot, spot_of, scope_of_names, part_of, step_at}
 use Rattle.pts_code.specs.Outcomes.{Outcome, and_then, never, inverted, in_order, from_left, all_of, any_of, choice}
 use Rattle.pts_code.specs.Values.{Environment, Valuation, count, note, noted, numbers, operations, valuation, number_value, throw_code, call_valuation, minus_valuation, bound_to, at_kinds}
+use Rattle.pts_code.proofs.Chains.{IsChained}
 use Rattle.pts_code.proofs.Counted.{counted}
-use Rattle.pts_code.proofs.Given.{gives-Value, gives-Note, gives-Throw, gives-Call, gives-Convert, gives-Negate, gives-Not, gives-Chain, gives-All, gives-Any, gives-If}
+use Rattle.pts_code.proofs.Given.{gives-Value, gives-Note, gives-Throw, gives-Call, gives-Convert, gives-Negate, gives-Not, gives-All, gives-Any, gives-If}
 use Rattle.pts_code.proofs.Lookups.{IsLost, no_local, no_function, local_at, element_at, no_element, Found, function_found, params_known}
 use Rattle.pts_code.proofs.SameKinds.{own_same, literal_same}
 use Rattle.pts_code.proofs.Valuations.{valued-Number, valued-True, valued-False, valued-Name, valued-Call, valued-Element, valued-Convert, valued-Throw, valued-Paren, valued-Minus, valued-Not, valued-Chain, valued-Compare, valued-All, valued-Any, valued-If}
@@ -147,11 +148,12 @@ module _ (scope : Scope) (spots : List Spot) (kind : Kind) (first : ℕ) where
         ∙ sym (ap at (valued-Not env (noted sight.notes) x));
   }
 
-  pub is-Chain : (x : Expr) (parts : List ChainPart) (code : Code) (steps : List Step) → IsCode scope spots kind first x code → AreSteps scope spots kind (past x) parts steps
-      → IsCode scope spots kind first (e.Chain x parts) (c.Chain code steps)
-  is-Chain x parts code steps h hs = record {
+  pub is-Chain : (x : Expr) (parts : List ChainPart) (code : Code) (steps : List Step) (whole : Code) → IsChained code steps whole
+      → IsCode scope spots kind first x code → AreSteps scope spots kind (past x) parts steps
+      → IsCode scope spots kind first (e.Chain x parts) whole
+  is-Chain x parts code steps whole same h hs = record {
     means = λ env sight is holds.
-        gives-Chain sight code steps
+        same sight
         ∙ ap (λ o. from_left o (map (step_at sight) steps)) (h.means env sight is holds)
         ∙ ap (from_left (at (v env sight x))) (hs.means env sight is holds ∙ ap (operations kind (map (part_of env sight) parts)) (counted_past env sight x))
         ∙ sym (ap at (valued-Chain env (noted sight.notes) x parts));
@@ -161,14 +163,14 @@ module _ (scope : Scope) (spots : List Spot) (kind : Kind) (first : ℕ) where
   abbrev pub sides : Expr → Expr → Kind
   sides x y = unwrap_or (option_or (typing false scope x).own (typing false scope y).own) kinds.U64
 
-  pub is-Compare : (op : ScalarOp) (x y : Expr) (code operand : Code) → IsCode scope spots (sides x y) first x code → IsCode scope spots (sides x y) (past x) y operand
-      → IsCode scope spots kind first (e.Compare op x y) (c.Chain code ((record { op = op; operand = operand }) ∷ []))
-  is-Compare op x y code operand h hs = record {
+  pub is-Compare : (op : ScalarOp) (x y : Expr) (code operand whole : Code) → IsChained code ((record { op = op; operand = operand }) ∷ []) whole
+      → IsCode scope spots (sides x y) first x code → IsCode scope spots (sides x y) (past x) y operand
+      → IsCode scope spots kind first (e.Compare op x y) whole
+  is-Compare op x y code operand whole same h hs = record {
     means = λ env sight is holds.
-        let steps : List Step = (record { op = op; operand = operand }) ∷ [] in
         let value : Option Kind → Option Kind → Outcome = λ a b.
         from_left ((v env sight x).value (unwrap_or (option_or a b) kinds.U64) first) ((op, (v env sight y).value (unwrap_or (option_or a b) kinds.U64) (first + count (v env sight x))) ∷ []) in
-        gives-Chain sight code steps
+        same sight
         ∙ ap (λ o. from_left o ((op, gives sight operand) ∷ [])) (h.means env sight is holds)
         ∙ ap (λ o. from_left ((v env sight x).value (sides x y) first) ((op, o) ∷ [])) (hs.means env sight is holds ∙ ap ((v env sight y).value (sides x y)) (counted_past env sight x))
         ∙ (λ i. value (own_same false scope env (noted sight.notes) x is i) (own_same false scope env (noted sight.notes) y is i))

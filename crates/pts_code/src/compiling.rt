@@ -7,7 +7,8 @@ ghost use Rattle.pts_rules.specs.Known as known;
 ghost use Rattle.pts_types.specs.declared.value.Value.TheVariants as values;
 ghost use Rattle.pts_code.specs.declared.code.Code.TheVariants as codes;
 ghost use Rattle.pts_code.specs.Codes as given;
-ghost use Rattle.pts_code.specs.Compiling.{AreArguments, AreSteps, AreTruths, IsCode, at_spot, spot_of};
+ghost use Rattle.pts_code.specs.Compiling.{AreArguments, AreSteps, AreTruths, IsCode, at_spot, spot_of, step_at};
+ghost use Rattle.pts_code.specs.Outcomes.{from_left};
 ghost use Rattle.pts_code.specs.Values.{numbers};
 
 use crate::code::{Code, Step};
@@ -298,6 +299,19 @@ fn compile_parts(
     Ok(steps)
 }
 
+// Steps behind code. Behind a chain they go on in it, so that brackets on the left cost no call when it is evaluated.
+fn chained(alloc: Global, code: Code, steps: Items<Step>) -> Result<Code, AllocError>
+    ensures { IfOk result (λ whole. (sight : given.Sight) → given.gives sight whole ≡ from_left (given.gives sight code) (map (step_at sight) steps)) }
+{
+    match code {
+        Code::Chain(first, mut before) => {
+            before.append(steps)?;
+            Ok(Code::Chain(first, before))
+        }
+        code => Ok(Code::Chain(Boxed::new(alloc, code)?, steps)),
+    }
+}
+
 #[cycle(compile)]
 fn compile_compare(
     alloc: Global,
@@ -311,7 +325,7 @@ fn compile_compare(
     let kind = own_kind(names.scope, sides.left)
         .or(own_kind(names.scope, sides.right))
         .unwrap_or(Kind::U64);
-    let left = compile_boxed(alloc, names, kind, first, sides.left)?;
+    let left = compile(alloc, names, kind, first, sides.left)?;
     let next = first + numbers_in(sides.left, true);
     let operand = compile(alloc, names, kind, next, sides.right)?;
     let mut steps = Items::new(alloc);
@@ -319,7 +333,7 @@ fn compile_compare(
         op: sides.op,
         operand,
     })?;
-    Ok(Code::Chain(left, steps))
+    chained(alloc, left, steps)
 }
 
 #[cycle(compile)]
@@ -407,12 +421,10 @@ pub fn compile(
             operand.get(),
         )?)),
         Expr::Chain(operand, parts) => {
-            let code = compile_boxed(alloc, names, kind, first, operand.get())?;
+            let code = compile(alloc, names, kind, first, operand.get())?;
             let next = first + numbers_in(operand.get(), true);
-            Ok(Code::Chain(
-                code,
-                compile_parts(alloc, names, kind, next, parts.as_slice())?,
-            ))
+            let steps = compile_parts(alloc, names, kind, next, parts.as_slice())?;
+            chained(alloc, code, steps)
         }
         Expr::Compare(op, left, right) => {
             let sides = Comparison {

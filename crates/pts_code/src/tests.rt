@@ -165,6 +165,19 @@ const MINUS: Token = Token::Chain(ScalarOp::Minus);
 
 const EQUAL: Token = Token::Compare(ScalarOp::Equal);
 
+// (x - 1 - 2) * 3 == 6
+const LEFT: &[Token] = &[
+    X,
+    Token::Number(1),
+    MINUS,
+    Token::Number(2),
+    Token::Part(ScalarOp::Minus),
+    Token::Number(3),
+    Token::Chain(ScalarOp::Multiplies),
+    Token::Number(6),
+    EQUAL,
+];
+
 // What the elements of each row gave, and behind it the local value t.
 const NOTES: &[Option<Result<Value, Thrown>>] = &[
     Some(Ok(Value::U64(10))),
@@ -323,6 +336,41 @@ fn elements_give_what_was_noted_where_they_are_taken(rt: HostRuntime) -> Result<
     let alloc = rt.alloc();
     let codes = with_function(alloc, Codes::new(alloc), difference(alloc)?)?;
     assert_eq!(rt; rows_that_hold(alloc, &codes, ROWS)?, 8);
+    Ok(())
+}
+
+// The operators of a chain that begins with what stands in no chain.
+fn operators(code: &Code) -> Option<(ScalarOp, ScalarOp, ScalarOp, ScalarOp)> {
+    let Code::Chain(first, steps) = code else {
+        return None;
+    };
+    match (first.get(), steps.as_slice()) {
+        (Code::Local(0), [one, two, three, four]) => Some((one.op, two.op, three.op, four.op)),
+        _ => None,
+    }
+}
+
+#[test]
+fn chains_on_the_left_are_one_chain(rt: HostRuntime) -> Result<(), Fail> {
+    let alloc = rt.alloc();
+    let codes = with_function(alloc, Codes::new(alloc), difference(alloc)?)?;
+    let scope = names_of(alloc, &codes)?;
+    let code = code_of(alloc, &scope, Kind::Bool, &tree(alloc, LEFT)?)?;
+    assert_eq!(rt;
+        operators(&code),
+        Some((
+            ScalarOp::Minus,
+            ScalarOp::Minus,
+            ScalarOp::Multiplies,
+            ScalarOp::Equal
+        ))
+    );
+    let frame = Frame {
+        codes: codes.codes(),
+        values: &[Value::U64(5)],
+        notes: NOTES,
+    };
+    assert_eq!(rt; eval(&frame, &code), Ok(Value::Bool(true)));
     Ok(())
 }
 

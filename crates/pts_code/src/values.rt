@@ -1,6 +1,6 @@
 //! Steps on values that have a meaning at values of every kind.
 
-ghost use Rattle.std.specs.Prelude.{◌≡◌, ◌<◌, ◌^◌, nat_abs, neg_ℤ, pos};
+ghost use Rattle.std.specs.Prelude.{◌≡◌, ◌<◌, ◌^◌, Err, MatchOption, Ok, nat_abs, neg_ℤ, pos};
 ghost use Rattle.pts_types.specs.Arithmetic as arithmetic;
 ghost use Rattle.pts_code.specs.Outcomes as spec;
 ghost use Rattle.pts_code.specs.Values as valued;
@@ -71,15 +71,94 @@ pub fn negated(value: Value) -> Result<Value, Thrown>
     }
 }
 
+// The result of an operation that has one in the range of `i64`.
+#[inline(always)]
+fn exact(found: Option<i64>) -> Result<Value, Thrown>
+    ensures { MatchOption found (result ≡ Err Thrown.Overflow) (λ z. result ≡ Ok (Value.I64 z)) }
+{
+    match found {
+        Some(number) => Ok(Value::I64(number)),
+        None => Err(Thrown::Overflow),
+    }
+}
+
+// `apply` takes its values and gives its result in memory, which costs more than most operations do. So the commonest stand
+// here, and the others behind a call that takes numbers.
+
+#[inline(never)]
+fn rarer_u64(op: ScalarOp, x: u64, y: u64) -> Result<Value, Thrown>
+    ensures { result ≡ arithmetic.u64_under op x y }
+{
+    apply(op, Value::U64(x), Value::U64(y))
+}
+
+#[inline(never)]
+fn rarer_i64(op: ScalarOp, x: i64, y: i64) -> Result<Value, Thrown>
+    ensures { result ≡ arithmetic.i64_under op x y }
+{
+    apply(op, Value::I64(x), Value::I64(y))
+}
+
+#[inline(always)]
+fn operated_u64(op: ScalarOp, x: u64, y: u64) -> Result<Value, Thrown>
+    ensures { result ≡ arithmetic.u64_under op x y }
+{
+    match op {
+        ScalarOp::Plus => Ok(Value::U64(x.wrapping_add(y))),
+        ScalarOp::Minus => Ok(Value::U64(x.wrapping_sub(y))),
+        ScalarOp::Multiplies => Ok(Value::U64(x.wrapping_mul(y))),
+        ScalarOp::BitAnd => Ok(Value::U64(x & y)),
+        ScalarOp::BitOr => Ok(Value::U64(x | y)),
+        ScalarOp::BitXor => Ok(Value::U64(x ^ y)),
+        ScalarOp::Modulus if y != 0 => Ok(Value::U64(x % y)),
+        ScalarOp::Less => Ok(Value::Bool(x < y)),
+        ScalarOp::LessEqual => Ok(Value::Bool(x <= y)),
+        ScalarOp::Greater => Ok(Value::Bool(x > y)),
+        ScalarOp::GreaterEqual => Ok(Value::Bool(x >= y)),
+        ScalarOp::Equal => Ok(Value::Bool(x == y)),
+        ScalarOp::NotEqual => Ok(Value::Bool(x != y)),
+        _ => rarer_u64(op, x, y),
+    }
+}
+
+#[inline(always)]
+fn operated_i64(op: ScalarOp, x: i64, y: i64) -> Result<Value, Thrown>
+    ensures { result ≡ arithmetic.i64_under op x y }
+{
+    match op {
+        ScalarOp::Plus => exact(x.checked_add(y)),
+        ScalarOp::Minus => exact(x.checked_sub(y)),
+        ScalarOp::Multiplies => exact(x.checked_mul(y)),
+        ScalarOp::Less => Ok(Value::Bool(x < y)),
+        ScalarOp::LessEqual => Ok(Value::Bool(x <= y)),
+        ScalarOp::Greater => Ok(Value::Bool(x > y)),
+        ScalarOp::GreaterEqual => Ok(Value::Bool(x >= y)),
+        ScalarOp::Equal => Ok(Value::Bool(x == y)),
+        ScalarOp::NotEqual => Ok(Value::Bool(x != y)),
+        _ => rarer_i64(op, x, y),
+    }
+}
+
+#[inline(always)]
+fn operated_bool(op: ScalarOp, x: bool, y: bool) -> bool
+    ensures { result ≡ arithmetic.bool_under op x y }
+{
+    if op == ScalarOp::NotEqual {
+        x != y
+    } else {
+        x == y
+    }
+}
+
 /// An operation on two values; where they have none, the first stands for it.
 #[inline(always)]
 pub fn operated(op: ScalarOp, x: Value, y: Value) -> Result<Value, Thrown>
     ensures { result ≡ arithmetic.value_under op x y }
 {
     match (x, y) {
-        (Value::U64(_), Value::U64(_)) | (Value::I64(_), Value::I64(_)) => apply(op, x, y),
-        (Value::Bool(_), Value::Bool(_)) if op == ScalarOp::NotEqual => apply(op, x, y),
-        (Value::Bool(_), Value::Bool(_)) => apply(ScalarOp::Equal, x, y),
+        (Value::U64(x), Value::U64(y)) => operated_u64(op, x, y),
+        (Value::I64(x), Value::I64(y)) => operated_i64(op, x, y),
+        (Value::Bool(x), Value::Bool(y)) => Ok(Value::Bool(operated_bool(op, x, y))),
         _ => Ok(x),
     }
 }

@@ -13,6 +13,7 @@ use Rattle.pts_rules.specs.Kinds.{typing}
 use Rattle.pts_code.specs.declared.code.Code.TheVariants as codes
 use Rattle.pts_code.specs.Compiling.{IsCode, AreArguments, AreTruths, AreSteps}
 use Rattle.pts_code.specs.Values.{number_value, numbers}
+use Rattle.pts_code.proofs.Chains.{IsChained}
 use Rattle.pts_code.proofs.ExprWeights as weigh
 use Rattle.pts_code.proofs.ExprWeights.{weight, weights, part_weights}
 use Rattle.pts_code.proofs.Forms as form
@@ -176,12 +177,17 @@ compile_compare-returns t c =
     let is : c.unwrap_or-kind.result ≡ kind = c.unwrap_or-kind.ensures ∙ ap (λ o. unwrap_or o kinds.U64) (c.or.ensures ∙ (λ i. option_or (c.own_kind.ensures i) (c.own_kind-2.ensures i))) in
     let next : c.args.first + c.numbers_in.result ≡ c.args.first + numbers true left = omega (arith, c.requires, c.numbers_in.ensures) in
     let operand = c.in_ok-operand.operand in
-    λ asked.
-    subst (IsCode c.args.names.now.scope.now c.args.names.now.spots.now asked c.args.first (e.Compare sides.op left right))
-    (λ i. codes.Chain c.in_ok-left.left (sym (c.in_ok-push.ensures.ok ∙ ap (λ z. z ++ (record { op = sides.op; operand = operand }) ∷ []) c.new-steps.ensures) i))
-    (form.is-Compare c.args.names.now.scope.now c.args.names.now.spots.now asked c.args.first sides.op left right c.in_ok-left.left operand
+    let pushed : c.push.new.self ≡ (record { op = sides.op; operand = operand }) ∷ [] = c.in_ok-push.ensures.ok ∙ ap (λ z. z ++ (record { op = sides.op; operand = operand }) ∷ []) c.new-steps.ensures in
+    form.when_ok
+    (IsChained c.in_ok-left.left c.push.new.self)
+    (λ whole. (asked : Kind) → IsCode c.args.names.now.scope.now c.args.names.now.spots.now asked c.args.first (e.Compare sides.op left right) whole)
+    c.chained.result
+    (λ whole same asked.
+    form.is-Compare c.args.names.now.scope.now c.args.names.now.spots.now asked c.args.first sides.op left right c.in_ok-left.left operand whole
+    (subst (λ steps. IsChained c.in_ok-left.left steps whole) pushed same)
     (subst (λ k. IsCode c.args.names.now.scope.now c.args.names.now.spots.now k c.args.first left c.in_ok-left.left) is c.in_ok-left.ensures)
     (subst (λ (k : Kind × ℕ). IsCode c.args.names.now.scope.now c.args.names.now.spots.now k.0 k.1 right operand) (λ i. (is i, next i)) c.in_ok-operand.ensures))
+    c.chained.ensures
 
 -- ---- truths
 
@@ -326,8 +332,8 @@ compile-compile_boxed-requires-in-Not t c =
       ap (numbers true) c.get-in-Not.ensures,
     )
 
-pub compile-compile_boxed-requires-in-Chain : goal.compile-compile_boxed-requires-in-Chain
-compile-compile_boxed-requires-in-Chain t c =
+pub compile-compile-requires-in-Chain : goal.compile-compile-requires-in-Chain
+compile-compile-requires-in-Chain t c =
     omega (
       arith,
       c.decreases,
@@ -464,18 +470,24 @@ compile-returns-in_ok-compile_boxed-in-Not t c =
     subst (λ x. IsCode c.args.names.now.scope.now c.args.names.now.spots.now c.args.kind c.args.first x (codes.Not code)) (sym c.in-Not.is)
     (form.is-Not c.args.names.now.scope.now c.args.names.now.spots.now c.args.kind c.args.first c.in-Not.operand code (subst (λ x. IsCode c.args.names.now.scope.now c.args.names.now.spots.now kinds.Bool c.args.first x code) c.get-in-Not.ensures c.in_ok-compile_boxed-in-Not.ensures))
 
-pub compile-returns-in_ok-compile_parts-in-Chain : goal.compile-returns-in_ok-compile_parts-in-Chain
-compile-returns-in_ok-compile_parts-in-Chain t c =
+pub compile-returns-in_ok-steps-in-Chain : goal.compile-returns-in_ok-steps-in-Chain
+compile-returns-in_ok-steps-in-Chain t c =
     let operand = c.in-Chain.operand in
     let parts = c.in-Chain.parts in
     let code = c.in_ok-code-in-Chain.code in
-    let steps = c.in_ok-compile_parts-in-Chain.field-0 in
+    let steps = c.in_ok-steps-in-Chain.steps in
     let next : c.args.first + c.numbers_in.result ≡ c.args.first + numbers true operand =
     omega (arith, c.requires, c.numbers_in.ensures, ap (numbers true) c.in-Chain.is, number.numbers-Chain true operand parts, ap (numbers true) c.get-in-Chain-2.ensures) in
-    subst (λ x. IsCode c.args.names.now.scope.now c.args.names.now.spots.now c.args.kind c.args.first x (codes.Chain code steps)) (sym c.in-Chain.is)
-    (form.is-Chain c.args.names.now.scope.now c.args.names.now.spots.now c.args.kind c.args.first operand parts code steps
+    form.when_ok
+    (IsChained code steps)
+    (IsCode c.args.names.now.scope.now c.args.names.now.spots.now c.args.kind c.args.first c.args.expr.now)
+    c.chained.result
+    (λ whole same.
+    subst (λ x. IsCode c.args.names.now.scope.now c.args.names.now.spots.now c.args.kind c.args.first x whole) (sym c.in-Chain.is)
+    (form.is-Chain c.args.names.now.scope.now c.args.names.now.spots.now c.args.kind c.args.first operand parts code steps whole same
     (subst (λ x. IsCode c.args.names.now.scope.now c.args.names.now.spots.now c.args.kind c.args.first x code) c.get-in-Chain.ensures c.in_ok-code-in-Chain.ensures)
-    (subst (λ (y : ℕ × List ChainPart). AreSteps c.args.names.now.scope.now c.args.names.now.spots.now c.args.kind y.0 y.1 steps) (λ i. (next i, c.as_slice-in-Chain.ensures i)) c.in_ok-compile_parts-in-Chain.ensures))
+    (subst (λ (y : ℕ × List ChainPart). AreSteps c.args.names.now.scope.now c.args.names.now.spots.now c.args.kind y.0 y.1 steps) (λ i. (next i, c.as_slice-in-Chain.ensures i)) c.in_ok-steps-in-Chain.ensures)))
+    c.chained.ensures
 
 pub compile-returns-in_ok-compile_each-in-All : goal.compile-returns-in_ok-compile_each-in-All
 compile-returns-in_ok-compile_each-in-All t c =
