@@ -1,25 +1,38 @@
 -- The results of calls by the answers of the crates that run them.
 use Rattle.std.proofs.Common.{◌≡◌, ◌⊎◌, inl, inr, ℕ, true, false, Option, Some, None, IsNone, IsSome, IsSomeAnd, IfSome, List, Result, Ok, Err, IfOk, refl, sym, ap, ◌∙◌, subst}
-use Rattle.std.specs.Prelude.{option_and_then}
+use Rattle.std.specs.Prelude.{option_and_then, option_map, []}
 use Rattle.pts_types.specs.declared.value.NoMemory.{NoMemory}
 use Rattle.pts_lowering.specs.declared.forms.CellRange.{CellRange}
 use Rattle.pts_types.specs.declared.value.Value.{Value}
 use Rattle.pts_types.specs.declared.value.Value.TheVariants as values
+use Rattle.pts_boards.specs.declared.grouping.Grouping.{Grouping}
 use Rattle.pts_boards.specs.declared.pool.Pool.{Pool}
 use Rattle.pts_code.specs.declared.function.FunctionInfo.{FunctionInfo}
 use Rattle.pts_cells.specs.WrittenCells.{WrittenCells}
+use Rattle.pts_lowering.specs.declared.forms.ForEach.{ForEach}
 use Rattle.pts_lowering.specs.declared.forms.LoweredCall.{LoweredCall}
 use Rattle.pts_lowering.specs.declared.forms.LoweredCall.TheVariants as lowered
+use Rattle.pts_lowering.specs.declared.forms.LoweredLoop.{LoweredLoop}
 use Rattle.pts_lowering.specs.declared.forms.Reduction.{Reduction}
 use Rattle.pts_lowering.specs.declared.forms.Scan.{Scan}
+use Rattle.pts_lowering.specs.declared.forms.Search.{Search}
+use Rattle.pts_lowering.specs.declared.forms.Transform.{Transform}
+use Rattle.pts_program.specs.declared.lists.Lists.{Lists}
 use Rattle.pts_store.specs.Steps.{AreOf, Step}
 use Rattle.pts_store.specs.Stores.{Store, accepted, arrays_with}
 use Rattle.pts_store.specs.Writes.{Writes}
 use Rattle.pts_eval.specs.declared.results.CallResult.TheVariants as results
-use Rattle.pts_eval.specs.Calls.{CallGives, CallThrows, IsSumOf, Reduces, Scans, with_steps}
-use Rattle.pts_eval.specs.Maps.{EndsWith, PermitsAnswer}
+use Rattle.pts_passes.specs.Ends.{PermitsLoop}
+use Rattle.pts_passes.specs.Passes.{Pass, head_in, pass_at}
+use Rattle.pts_eval.specs.Calls.{CallGives, CallThrows, IsSumOf, LoopThrows, LoopWrites, Reduces, Scans, with_steps}
+use Rattle.pts_eval.specs.Maps.{EndsWith, PermitsAnswer, count_if_in, find_if_in, for_each_in, transform_in}
+use Rattle.pts_maps.specs.declared.answers.MapAnswer.{MapAnswer}
+use Rattle.pts_maps.specs.Answers as maps
 use Rattle.pts_eval.specs.Maps as ends
 use Rattle.pts_eval.specs.Sums.{reduction_in, scan_in, scanned, steps_from, steps_into, IsReduce, IsTransformReduce}
+use Rattle.pts_loops.specs.declared.answers.LoopAnswer.{LoopAnswer}
+use Rattle.pts_loops.specs.declared.answers.LoopAnswer.TheVariants as loop_answers
+use Rattle.pts_loops.specs.Answers as loops
 use Rattle.pts_calls.specs.declared.answers.CallAnswer.{CallAnswer}
 use Rattle.pts_calls.specs.Answers.{is_reduce, IsCallAnswer}
 use Rattle.pts_sums.specs.declared.answers.Outcome.{Outcome}
@@ -77,8 +90,8 @@ no_count : (cells : Option WrittenCells) (n : ℕ) (writes : Writes) → EndsWit
 no_count (Some cells) n writes h = h
 no_count None n writes h = h
 
-module _ (pool : Pool) (functions : List FunctionInfo) (store : Store) (writes : Writes) where
-  pub map_done : (call : LoweredCall) → PermitsAnswer pool.workers functions store call ends.Done writes → CallGives pool functions call store results.Done (accepted store writes)
+module _ (pool : Pool) (lists : Lists) (number : ℕ) (store : Store) (writes : Writes) where
+  pub map_done : (call : LoweredCall) → PermitsAnswer pool.workers lists.functions store call ends.Done writes → CallGives pool lists number call store results.Done (accepted store writes)
   map_done (lowered.ForEach call) h = record { writes = writes; permitted = h; after_is = refl }
   map_done (lowered.Transform call) h = record { writes = writes; permitted = h; after_is = refl }
   map_done (lowered.FindIf call) h = absurd h.0
@@ -87,7 +100,7 @@ module _ (pool : Pool) (functions : List FunctionInfo) (store : Store) (writes :
   map_done (lowered.Scan call) h = absurd h
   map_done (lowered.Loop call) h = absurd h
 
-  pub map_found : (place : Option ℕ) (call : LoweredCall) → PermitsAnswer pool.workers functions store call (ends.Index place) writes → CallGives pool functions call store (results.Position place) (accepted store writes)
+  pub map_found : (place : Option ℕ) (call : LoweredCall) → PermitsAnswer pool.workers lists.functions store call (ends.Index place) writes → CallGives pool lists number call store (results.Position place) (accepted store writes)
   map_found place (lowered.FindIf call) h = record { writes = writes; permitted = h; after_is = refl }
   map_found place (lowered.ForEach call) h = absurd (no_position _ place writes h.ends)
   map_found place (lowered.Transform call) h = absurd (no_position _ place writes h.ends)
@@ -96,7 +109,7 @@ module _ (pool : Pool) (functions : List FunctionInfo) (store : Store) (writes :
   map_found place (lowered.Scan call) h = absurd h
   map_found place (lowered.Loop call) h = absurd h
 
-  pub map_counted : (n : ℕ) (call : LoweredCall) → PermitsAnswer pool.workers functions store call (ends.Count n) writes → CallGives pool functions call store (results.Value (values.U64 n)) (accepted store writes)
+  pub map_counted : (n : ℕ) (call : LoweredCall) → PermitsAnswer pool.workers lists.functions store call (ends.Count n) writes → CallGives pool lists number call store (results.Value (values.U64 n)) (accepted store writes)
   map_counted n (lowered.CountIf call) h = record { writes = writes; permitted = h; after_is = refl }
   map_counted n (lowered.ForEach call) h = absurd (no_count _ n writes h.ends)
   map_counted n (lowered.Transform call) h = absurd (no_count _ n writes h.ends)
@@ -105,7 +118,7 @@ module _ (pool : Pool) (functions : List FunctionInfo) (store : Store) (writes :
   map_counted n (lowered.Scan call) h = absurd h
   map_counted n (lowered.Loop call) h = absurd h
 
-  pub map_thrown : (call : LoweredCall) → PermitsAnswer pool.workers functions store call ends.Terminated writes → CallThrows pool functions call store
+  pub map_thrown : (call : LoweredCall) → PermitsAnswer pool.workers lists.functions store call ends.Terminated writes → CallThrows pool lists number call store
   map_thrown (lowered.ForEach call) h = (writes, h)
   map_thrown (lowered.Transform call) h = (writes, h)
   map_thrown (lowered.FindIf call) h = (writes, h)
@@ -117,10 +130,10 @@ module _ (pool : Pool) (functions : List FunctionInfo) (store : Store) (writes :
 -- ---- calls by their forms
 
 -- the answer of the call of a number is that of its form
-pub for_form : (pool : Pool) (functions : List FunctionInfo) (store : Store) (own : Option LoweredCall) (form : LoweredCall) (r : Result CallAnswer NoMemory) → own ≡ Some form
-    → IfOk r (IsCallAnswer pool functions form store) → IfOk r (λ answer. IfSome own (λ f. IsCallAnswer pool functions f store answer))
-for_form pool functions store own form (Ok answer) is h = subst (λ o. IfSome o (λ f. IsCallAnswer pool functions f store answer)) (sym is) h
-for_form pool functions store own form (Err fault) is h = h
+pub for_form : (pool : Pool) (lists : Lists) (number : ℕ) (store : Store) (own : Option LoweredCall) (form : LoweredCall) (r : Result CallAnswer NoMemory) → own ≡ Some form
+    → IfOk r (IsCallAnswer pool lists number form store) → IfOk r (λ answer. IfSome own (λ f. IsCallAnswer pool lists number f store answer))
+for_form pool lists number store own form (Ok answer) is h = subst (λ o. IfSome o (λ f. IsCallAnswer pool lists number f store answer)) (sym is) h
+for_form pool lists number store own form (Err fault) is h = h
 
 plain : (second : Option CellRange) (transform : Option ℕ) → is_reduce second transform ≡ true → IsNone second × IsNone transform
 plain None None h = (refl, refl)
@@ -141,3 +154,60 @@ transform_form own call is h = subst (λ o. IsSomeAnd (option_and_then reduction
 pub scan_own : (pool : Pool) (functions : List FunctionInfo) (store : Store) (own : Option LoweredCall) (call : Scan) (answer : ScanAnswer) → own ≡ Some (lowered.Scan call)
     → IfSome (option_and_then scan_in own) (λ s. IsScanAnswer functions store pool s answer) → IsScanAnswer functions store pool call answer
 scan_own pool functions store own call answer is h = subst (λ o. IfSome (option_and_then scan_in o) (λ s. IsScanAnswer functions store pool s answer)) is h
+
+-- ---- loops
+
+all_some : {A : Type 0} {P Q : A → Type 0} (o : Option A) → ((x : A) → P x → Q x) → IsSomeAnd o P → IsSomeAnd o Q
+all_some None f h = absurd h
+all_some (Some x) f h = f x h
+
+module _ (pool : Pool) (lists : Lists) (number : ℕ) (store : Store) (answer : LoopAnswer) (permitted : IsSomeAnd (pass_at lists number) (λ pass. PermitsLoop pool pass store (loops.end_of answer) (loops.writes_of answer))) where
+  -- a loop that has written
+  pub loop_given : (writes : Writes) (values : List Value) (grouping : Grouping) → answer ≡ loop_answers.Written writes values grouping
+      → IsSomeAnd (pass_at lists number) (λ pass. LoopWrites pool pass store (accepted store writes))
+  loop_given writes values grouping is = all_some (pass_at lists number) (λ (pass : Pass) h. (
+    values,
+    grouping.groups,
+    record { writes = writes; permitted = subst (λ a. PermitsLoop pool pass store (loops.end_of a) (loops.writes_of a)) is h; after_is = refl },
+  )) permitted
+
+  -- one that has terminated
+  pub loop_thrown : (grouping : Option Grouping) → answer ≡ loop_answers.Terminated grouping → IsSomeAnd (pass_at lists number) (λ pass. LoopThrows pool pass store)
+  loop_thrown grouping is = all_some (pass_at lists number) (λ (pass : Pass) h. (
+    option_map (λ g. g.groups) grouping,
+    [],
+    subst (λ a. PermitsLoop pool pass store (loops.end_of a) (loops.writes_of a)) is h,
+  )) permitted
+
+-- a form that is a loop has a head
+pub loop_form : (own : Option LoweredCall) (head : LoweredLoop) → own ≡ Some (lowered.Loop head) → IsSome (option_and_then head_in own)
+loop_form own head is = subst (λ o. IsSome (option_and_then head_in o)) (sym is) refl
+
+-- ---- answers by the forms of their calls
+
+-- that of a reduction
+pub sum_own : (pool : Pool) (functions : List FunctionInfo) (store : Store) (own : Option LoweredCall) (call : Reduction) (answer given : SumAnswer) → own ≡ Some (lowered.Reduce call) → answer ≡ given
+    → IfSome (option_and_then reduction_in own) (λ r. IsSumAnswer functions store pool r given) → IsSumAnswer functions store pool call answer
+sum_own pool functions store own call answer given is same h =
+    subst (IsSumAnswer functions store pool call) (sym same) (subst (λ o. IfSome (option_and_then reduction_in o) (λ r. IsSumAnswer functions store pool r given)) is h)
+
+-- those of map calls
+module _ (workers : ℕ) (functions : List FunctionInfo) (store : Store) (own : Option LoweredCall) (form : LoweredCall) (there : own ≡ Some form) (answer given : MapAnswer) (same : answer ≡ given) where
+  abbrev Permits : MapAnswer → LoweredCall → Type 0
+  Permits a f = PermitsAnswer workers functions store f (maps.end_of a.answer) a.writes
+
+  pub for_each_own : (call : ForEach) → form ≡ lowered.ForEach call → IfSome (option_and_then for_each_in own) (λ x. Permits given (lowered.ForEach x)) → Permits answer form
+  for_each_own call is h =
+      subst (λ a. Permits a form) (sym same) (subst (Permits given) (sym is) (subst (λ o. IfSome (option_and_then for_each_in o) (λ x. Permits given (lowered.ForEach x))) (there ∙ ap Some is) h))
+
+  pub transform_own : (call : Transform) → form ≡ lowered.Transform call → IfSome (option_and_then transform_in own) (λ x. Permits given (lowered.Transform x)) → Permits answer form
+  transform_own call is h =
+      subst (λ a. Permits a form) (sym same) (subst (Permits given) (sym is) (subst (λ o. IfSome (option_and_then transform_in o) (λ x. Permits given (lowered.Transform x))) (there ∙ ap Some is) h))
+
+  pub find_if_own : (call : Search) → form ≡ lowered.FindIf call → IfSome (option_and_then find_if_in own) (λ x. Permits given (lowered.FindIf x)) → Permits answer form
+  find_if_own call is h =
+      subst (λ a. Permits a form) (sym same) (subst (Permits given) (sym is) (subst (λ o. IfSome (option_and_then find_if_in o) (λ x. Permits given (lowered.FindIf x))) (there ∙ ap Some is) h))
+
+  pub count_if_own : (call : Search) → form ≡ lowered.CountIf call → IfSome (option_and_then count_if_in own) (λ x. Permits given (lowered.CountIf x)) → Permits answer form
+  count_if_own call is h =
+      subst (λ a. Permits a form) (sym same) (subst (Permits given) (sym is) (subst (λ o. IfSome (option_and_then count_if_in o) (λ x. Permits given (lowered.CountIf x))) (there ∙ ap Some is) h))

@@ -6,4 +6,4 @@ mod answers;
 mod calls;
 
 pub use answers::CallAnswer;
-pub use calls::{built_call, run_call};
+pub use calls::{call_form, run_call};

@@ -1,10 +1,11 @@
 -- Calls by their evaluations, as the lists of a program show them.
-use Rattle.std.specs.Prelude.{◌≡◌, ℕ, false, ◌<◌, Some, slice_get, length}
+use Rattle.std.specs.Prelude.{◌≡◌, ℕ, false, ◌<◌, Some, List, slice_get, length}
 use Rattle.std.specs.List.{Contains}
 use Rattle.pts_types.specs.declared.operation.Policy.{Policy}
 use Rattle.pts_points.specs.declared.point.CallInfo.{CallInfo}
 use Rattle.pts_points.specs.declared.point.PointForm.TheVariants as forms
 use Rattle.pts_points.specs.declared.point.PointInfo.{PointInfo}
+use Rattle.pts_program.specs.declared.info.ArrayInfo.{ArrayInfo}
 use Rattle.pts_program.specs.declared.lists.Lists.{Lists}
 use Rattle.pts_program.specs.Ranges.{length_at}
 use Rattle.pts_store.specs.Stores.{Store, cells_in}
@@ -49,9 +50,13 @@ pub record IsCallAt (lists : Lists) (c : ℕ) (policy : Policy) (call : Call) : 
   pub no_loop : is_loop lists c ≡ false
   pub points : 0 < call.positions → (k : ℕ) (point : Point) → slice_get call.points k ≡ Some point → IsShown lists c point
 
+-- the store has the cells of these arrays
+pub record HasCells (arrays : List ArrayInfo) (store : Store) : Type 0 where
+  pub cells : (array : ℕ) → length (cells_in store array) ≡ length_at arrays array
+
 -- the store has the arrays of the program
-pub record HasArrays (lists : Lists) (store : Store) : Type 0 where
-  pub cells : (array : ℕ) → length (cells_in store array) ≡ length_at lists.arrays array
+abbrev pub HasArrays : Lists → Store → Type 0
+HasArrays lists store = HasCells lists.arrays store
 
 -- ---- laws
 

@@ -1,7 +1,6 @@
 -- The conflicts of a call are pairs of the points that stand together for it.
-use Rattle.std.proofs.Common.{◌≡◌, ◌≢◌, ℕ, ◌+◌, ◌-◌, ◌<◌, ◌≤◌, Some, None, Option, List, length, slice_get, refl, sym, ap, ◌∙◌, subst, arith}
-use Rattle.std.specs.Prelude.{All, IsSomeAnd, slice_range}
-use Rattle.std.proofs.lemmas.Option.{slice_get_within}
+use Rattle.std.proofs.Common.{◌≡◌, ◌≢◌, ℕ, ◌+◌, ◌-◌, ◌<◌, ◌≤◌, Some, None, Option, List, slice_get, sym, ap, ◌∙◌, subst, arith}
+use Rattle.std.specs.Prelude.{All, IsSomeAnd}
 use Rattle.pts_types.specs.declared.operation.Policy.TheVariants as policies
 use Rattle.pts_points.specs.declared.point.CallInfo.{CallInfo}
 use Rattle.pts_points.specs.declared.point.PointInfo.{PointInfo}
@@ -9,7 +8,7 @@ use Rattle.pts_points.specs.Standings.{HasPoint}
 use Rattle.pts_program.specs.declared.lists.Lists.{Lists}
 use Rattle.pts_program.specs.Lists.{IsProgram}
 use Rattle.pts_program.specs.Ranges.{IsInRange}
-use Rattle.pts_layout.specs.Layout.{points_before}
+use Rattle.pts_layout.specs.Layout.{call_start, points_before, points_of_call}
 use Rattle.pts_conflict.specs.declared.found.Found.{Found}
 use Rattle.pts_conflict.specs.Conflicts.{is_loop}
 use Rattle.pts_conflict.specs.Search.{Across, FindsFirst, InCallOf, IsFit, OneOf, PairInCall, rank_of}
@@ -21,7 +20,7 @@ use Rattle.pts_conflict.proofs.Ranges.{all_at, from_range, in_range_of, range_al
 
 module _ (lists : Lists) (program : IsProgram lists) (c : ℕ) (call : CallInfo) (there : slice_get lists.calls c ≡ Some call) where
   abbrev start : ℕ
-  start = points_before lists.points call.item + call.first_point
+  start = call_start lists.points call
 
   -- a point that names the call stands among the call's own
   own_place : (x : PointInfo) (j : ℕ) → slice_get lists.points j ≡ Some x → x.call ≡ Some c → (start ≤ j) × (j < start + call.points)
@@ -54,23 +53,8 @@ module _ (lists : Lists) (program : IsProgram lists) (c : ℕ) (call : CallInfo)
       by_point None e h = absurd (let n : None ≡ Some x = e in cc)
       by_point (Some y) e h = let s : y ≡ x = cc in sym (ap (λ z. z.call) s) ∙ h.2
 
-  -- and stands in the list, where the call has a point at all
-  pub own_within : 0 < call.points → start + call.points ≤ length lists.points
-  own_within some = by_point (slice_get lists.points (points_before lists.points call.item + last)) refl (stands lists program c last call there point)
-    where
-      last : ℕ
-      last = call.first_point + (call.points - 1)
-
-      point : HasPoint call last
-      point = record { from = omega arith; before = omega (arith, some) }
-
-      by_point : (o : Option PointInfo) → slice_get lists.points (points_before lists.points call.item + last) ≡ o → IsSomeAnd o (λ y. (y.item ≡ call.item) × (y.number ≡ last) × (y.call ≡ Some c))
-          → points_before lists.points call.item + call.first_point + call.points ≤ length lists.points
-      by_point None e h = absurd h
-      by_point (Some y) e h = let within = slice_get_within lists.points (points_before lists.points call.item + (call.first_point + (call.points - 1))) y e in omega (arith, some, within)
-
   abbrev own : List PointInfo
-  own = slice_range lists.points start (start + call.points)
+  own = points_of_call lists.points call
 
   pub own_fits : All IsFit own
   own_fits = range_all IsFit lists.points start (start + call.points) (fits lists program)
@@ -133,10 +117,3 @@ module _ (lists : Lists) (program : IsProgram lists) (c : ℕ) (call : CallInfo)
 
   pub none_in_order : call.policy ≡ policies.Seq → FindsFirst (InCallOf lists c) rank_of None
   none_in_order seq = λ x h. h.1.policy (ap (λ y. y.policy) (let e = sym h.1.there ∙ there in let same : h.1.call ≡ call = cc in same) ∙ seq)
-
-  pub none_without_points : call.points ≡ 0 → FindsFirst (InCallOf lists c) rank_of None
-  none_without_points none = λ x h.
-      let i = index_of lists.points h.1.a h.1.first in
-      let at = own_place h.1.a i.0 i.1 h.1.first_call in
-      let low = at.0 in let high = at.1 in
-      omega (arith, none, low, high)

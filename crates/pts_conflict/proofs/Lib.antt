@@ -3,7 +3,6 @@ mod Clashes
 mod Elements
 mod Firsts
 mod Forking
-mod Halving
 mod LeastConflicts
 mod Meetings
 pub mod OneConflict

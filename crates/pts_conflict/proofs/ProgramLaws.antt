@@ -15,12 +15,9 @@ use Rattle.pts_layout.proofs.BlockFolds.{blocks_have_points, blocks_in_order}
 use Rattle.pts_layout.proofs.Calls.{calls_have_points, points_of_call}
 use Rattle.pts_layout.proofs.Items.{all_placed}
 use Rattle.pts_layout.proofs.Points.{few_positions, live_out_cells, tests_before}
-use Rattle.pts_conflict.specs.Search.{AreByItem, IsFit}
+use Rattle.pts_conflict.specs.Search.{IsFit}
 
 module _ (lists : Lists) (h : IsProgram lists) where
-  pub by_item : AreByItem lists.points
-  by_item item j x at = (all_placed lists h).lower item j x at
-
   pub placed : (j : ℕ) (x : PointInfo) → slice_get lists.points j ≡ Some x → j ≡ points_before lists.points x.item + x.number
   placed = (all_placed lists h).places
 

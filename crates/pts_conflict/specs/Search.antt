@@ -1,5 +1,5 @@
 -- What the search goes by: first ones of those of which something holds.
-use Rattle.std.specs.Prelude.{◌≡◌, ℕ, ◌<◌, ◌⊎◌, ◌↔◌, Bool, true, false, ◌&&◌, ◌||◌, if◌then◌else◌, IsSomeAnd, MatchOption, Option, Some, None, List, [], ◌∷◌, drop, length, slice_get, pos}
+use Rattle.std.specs.Prelude.{◌≡◌, ℕ, ◌<◌, ◌⊎◌, Bool, true, false, ◌&&◌, ◌||◌, if◌then◌else◌, IsSomeAnd, MatchOption, Option, Some, None, List, [], ◌∷◌, drop, length, slice_get, pos}
 use Rattle.pts_affine.specs.declared.line.Line.{Line}
 use Rattle.pts_affine.specs.Equations.{IsWanted}
 use Rattle.pts_affine.specs.Lines.{IsBounded, cell}
@@ -112,10 +112,6 @@ abbrev pub by_pair : Pair → List ℕ
 by_pair x = by_place (place_of x)
 
 -- ---- programs
-
--- the points of the items before an item are the first ones of the list
-abbrev pub AreByItem : List PointInfo → Type 0
-AreByItem points = (item j : ℕ) (x : PointInfo) → slice_get points j ≡ Some x → (x.item < item) ↔ (j < points_before points item)
 
 -- the conflicts of call c, and those of all calls
 abbrev pub InCallOf : Lists → ℕ → Found → Type 0

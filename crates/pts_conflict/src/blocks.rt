@@ -10,8 +10,8 @@ ghost use Rattle.pts_conflict.specs.Search as spec;
 ghost use Rattle.pts_conflict.specs.Search.{EndsAt, FindsFirst, Forks, InBlockOf, InSomeBlock, IsFit, SomeForks, rank_of};
 
 use crate::found::{Found, lower};
-use crate::places::points_before;
 use crate::search::{BetweenParts, least_across};
+use pts_layout::points_before;
 use pts_lowering::{LoweredBlock, LoweredTask};
 use pts_points::PointInfo;
 use pts_program::Program;

@@ -1,14 +1,13 @@
 //! The first conflict in a call.
 
-ghost use Rattle.std.specs.Prelude.{◌≡◌, ◌≢◌, ◌<◌, ◌≤◌, ◌+◌, true, false, length, slice_range};
+ghost use Rattle.std.specs.Prelude.{◌≡◌, ◌≢◌, ◌<◌, true, false, length};
 ghost use Rattle.pts_conflict.specs.Conflicts as conflicts;
 ghost use Rattle.pts_conflict.specs.Search.{FindsFirst, InCallOf, InSomeCall, rank_of};
 
 use crate::found::{Found, lower};
-use crate::places::points_before;
 use crate::search::{InCall, least_across};
+use pts_layout::points_of_call;
 use pts_lowering::LoweredCall;
-use pts_points::PointInfo;
 use pts_program::Program;
 use pts_types::Policy;
 
@@ -26,13 +25,6 @@ fn runs_in_order(policy: Policy) -> bool
     matches!(policy, Policy::Seq)
 }
 
-fn part(points: &[PointInfo], start: usize, count: usize) -> &[PointInfo]
-    requires { start + count ≤ length points.now }
-    ensures { result.now ≡ slice_range points.now start (start + count) }
-{
-    &points[start..start + count]
-}
-
 fn least_in(program: &Program, number: usize) -> Option<Found>
     requires { number < length program.now.calls }
     ensures { FindsFirst (InCallOf program.now number) rank_of result }
@@ -42,11 +34,7 @@ fn least_in(program: &Program, number: usize) -> Option<Found>
     if runs_in_order(call.policy) {
         return None;
     }
-    if call.points == 0 {
-        return None;
-    }
-    let start = points_before(program.points(), call.item) + call.first_point as usize;
-    let points = part(program.points(), start, call.points as usize);
+    let points = points_of_call(program, number);
     let pairs = InCall {
         number,
         call: *call,

@@ -14,7 +14,6 @@ mod laws;
 mod meeting;
 mod order;
 mod pair;
-mod places;
 mod points;
 mod search;
 

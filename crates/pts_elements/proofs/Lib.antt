@@ -1,2 +1,3 @@
 pub mod IntoCells
 pub mod RangeCells
+pub mod Singles

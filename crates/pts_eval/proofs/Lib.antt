@@ -3,3 +3,4 @@ pub mod Finds
 pub mod Given
 pub mod Lists
 pub mod Literals
+pub mod Starts

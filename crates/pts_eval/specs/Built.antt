@@ -1,21 +1,14 @@
 -- Which statements are built.
-use Rattle.std.specs.Prelude.{ℕ, Bool, true, false, not, option_map, find, slice_get, Option, Some, None}
-use Rattle.pts_lowering.specs.declared.forms.LoweredCall.{LoweredCall}
-use Rattle.pts_lowering.specs.declared.forms.LoweredCall.TheVariants as lowered
+use Rattle.std.specs.Prelude.{ℕ, Bool, true, false, is_none, option_map, find, slice_get, Option, Some, None}
 use Rattle.pts_program.specs.declared.info.StatementInfo.{StatementInfo}
 use Rattle.pts_program.specs.declared.info.StatementInfo.TheVariants.{Call, Block, Print}
 use Rattle.pts_program.specs.declared.lists.Lists.{Lists}
 
--- calls of this form run
-abbrev pub is_built : LoweredCall → Bool
-is_built (lowered.Loop x) = false
-is_built call = true
-
--- the statement is not built
+-- the statement is not built: a task block is not, and each call that the program has is
 abbrev pub is_later : Lists → StatementInfo → Bool
 is_later lists (Print array) = false
 is_later lists (Block block) = true
-is_later lists (Call call) = elim (slice_get lists.lowered_calls call) [ None ↦ true | Some x ↦ not (is_built x) ]
+is_later lists (Call call) = is_none (slice_get lists.lowered_calls call)
 
 -- the item of a statement; that of a `print` is asked of nobody
 abbrev pub item_of : Lists → StatementInfo → ℕ

@@ -30,21 +30,21 @@ abbrev pub Prints : Lists → ℕ → Store → Answer → Store → Type 0
 Prints lists array before (Printed name cells) after = (name ≡ name_at lists array) × (cells ≡ cells_in before array) × (after ≡ before)
 Prints lists array before answer after = ⊥
 
--- a call gives a result
-abbrev pub GivesResult : Pool → Lists → LoweredCall → Store → Answer → Store → Type 0
-GivesResult pool lists call before (Called named result) after = (named ≡ call) × CallGives pool lists.functions call before result after
-GivesResult pool lists call before answer after = ⊥
+-- the call of a number gives a result
+abbrev pub GivesResult : Pool → Lists → ℕ → LoweredCall → Store → Answer → Store → Type 0
+GivesResult pool lists number call before (Called named result) after = (named ≡ call) × CallGives pool lists number call before result after
+GivesResult pool lists number call before answer after = ⊥
 
 -- where the pool is this, the statement may give this answer in the store `before` and leave the store `after`
 abbrev pub Performs : Pool → Lists → StatementInfo → Store → Answer → Store → Type 0
 Performs pool lists (Print array) before answer after = Prints lists array before answer after
-Performs pool lists (Call number) before answer after = IsSomeAnd (slice_get lists.lowered_calls number) (λ call. GivesResult pool lists call before answer after)
+Performs pool lists (Call number) before answer after = IsSomeAnd (slice_get lists.lowered_calls number) (λ call. GivesResult pool lists number call before answer after)
 Performs pool lists (Block number) before answer after = ⊥
 
 -- or it may terminate the run; a `print` does not
 abbrev pub Terminates : Pool → Lists → StatementInfo → Store → Type 0
 Terminates pool lists (Print array) before = ⊥
-Terminates pool lists (Call number) before = IsSomeAnd (slice_get lists.lowered_calls number) (λ call. CallThrows pool lists.functions call before)
+Terminates pool lists (Call number) before = IsSomeAnd (slice_get lists.lowered_calls number) (λ call. CallThrows pool lists number call before)
 Terminates pool lists (Block number) before = ⊥
 
 -- ---- runs

@@ -3,11 +3,9 @@
 ghost use Rattle.std.specs.Prelude.{◌≡◌};
 ghost use Rattle.pts_eval.specs.Built as spec;
 
-use pts_lowering::LoweredCall;
 use pts_program::{Program, StatementInfo};
 
-/// The item of the first statement that is not built; None where all of them are. All are but loops
-/// and task blocks.
+/// The item of the first statement that is not built; None where all of them are. All are but task blocks.
 pub fn later(program: &Program) -> Option<u32>
     ensures { result ≡ spec.first_later program.now }
 {
@@ -25,17 +23,8 @@ fn is_later(program: &Program, statement: StatementInfo) -> bool
     match statement {
         StatementInfo::Print(_) => false,
         StatementInfo::Block(_) => true,
-        StatementInfo::Call(call) => match program.lowered_calls().get(call as usize) {
-            Some(call) => !is_built(call),
-            None => true,
-        },
+        StatementInfo::Call(call) => program.lowered_calls().get(call as usize).is_none(),
     }
-}
-
-fn is_built(call: &LoweredCall) -> bool
-    ensures { result ≡ spec.is_built call.now }
-{
-    !matches!(call, LoweredCall::Loop(_))
 }
 
 fn item_of(program: &Program, statement: StatementInfo) -> u32

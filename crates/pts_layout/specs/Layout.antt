@@ -1,5 +1,5 @@
 -- Where points stand in the list of a program: item by item, in an item by their numbers, and so those of a call and of a block.
-use Rattle.std.specs.Prelude.{◌≡◌, ℕ, ◌+◌, ◌≤◌, ◌<◌, IsSomeAnd, nat_lt, count_by, Some, List, [], ◌∷◌, slice_get}
+use Rattle.std.specs.Prelude.{◌≡◌, ℕ, ◌+◌, ◌≤◌, ◌<◌, ◌↔◌, IsSomeAnd, nat_lt, count_by, Some, List, [], ◌∷◌, slice_get, slice_range}
 use Rattle.pts_points.specs.declared.point.CallInfo.{CallInfo}
 use Rattle.pts_points.specs.declared.point.PointInfo.{PointInfo}
 use Rattle.pts_points.specs.Standings.{HasPoint}
@@ -16,6 +16,10 @@ use Rattle.pts_program.specs.declared.lists.Lists.{Lists}
 abbrev pub points_before : List PointInfo → ℕ → ℕ
 points_before points item = count_by (λ x. nat_lt x.item item) points
 
+-- the points of the items before an item are the first ones of the list
+abbrev pub AreByItem : List PointInfo → Type 0
+AreByItem points = (item j : ℕ) (x : PointInfo) → slice_get points j ≡ Some x → (x.item < item) ↔ (j < points_before points item)
+
 -- behind the points of the items before there is point k of the item
 abbrev pub StandsAt : List PointInfo → ℕ → ℕ → (PointInfo → Type 0) → Type 0
 StandsAt points item k P = IsSomeAnd (slice_get points (points_before points item + k)) (λ x. (x.item ≡ item) × (x.number ≡ k) × P x)
@@ -25,6 +29,14 @@ StandsAt points item k P = IsSomeAnd (slice_get points (points_before points ite
 -- this is a point of the call of number c
 abbrev pub IsPointOfCall : Lists → PointInfo → ℕ → Type 0
 IsPointOfCall lists x c = IsSomeAnd (slice_get lists.calls c) (λ call. (call.item ≡ x.item) × HasPoint call x.number)
+
+-- where the points of a call begin
+abbrev pub call_start : List PointInfo → CallInfo → ℕ
+call_start points call = points_before points call.item + call.first_point
+
+-- the points of a call, in the order of their numbers
+abbrev pub points_of_call : List PointInfo → CallInfo → List PointInfo
+points_of_call points call = slice_range points (call_start points call) (call_start points call + call.points)
 
 -- ---- blocks
 

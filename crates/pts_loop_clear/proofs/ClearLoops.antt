@@ -25,8 +25,9 @@ use Rattle.pts_clear.specs.Showing.{HasArrays, ShowsAct, ShowsIndex}
 use Rattle.pts_passes.specs.Laws.{IsFree}
 use Rattle.pts_passes.specs.Passes.{Pass, across, act_of, comes_before, computed, index_of, point_of, text_points}
 use Rattle.pts_passes.proofs.Orders.{in_order_is_free}
-use Rattle.pts_loop_clear.proofs.Told.{told}
-use Rattle.pts_loop_clear.specs.Showing.{IsLine, IsLoopAt, IsOnLine, LoopsAreFree, moved, moved_branch}
+use Rattle.pts_clear.proofs.Told.{told}
+use Rattle.pts_loop_points.specs.LoopPoints.{IsLine, IsOnLine, moved, moved_branch}
+use Rattle.pts_loop_clear.specs.Showing.{IsLoopAt, LoopsAreFree}
 
 -- ---- orders
 

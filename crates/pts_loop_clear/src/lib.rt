@@ -4,4 +4,4 @@
 
 mod laws;
 
-pub use laws::{loops_are_free, loops_are_placed, loops_show_their_texts};
+pub use laws::loops_are_free;

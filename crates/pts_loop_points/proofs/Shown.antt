@@ -6,7 +6,6 @@ use Rattle.pts_tree.specs.declared.loops.Loop as loops
 use Rattle.pts_rules.specs.Known.{Scope}
 use Rattle.pts_rules.specs.Parts.{Name, Loop}
 use Rattle.pts_rules.specs.Scopes.{known}
-use Rattle.pts_constants.specs.declared.texts.CallText.TheVariants as texts
 use Rattle.pts_points.specs.declared.point.CallInfo.{CallInfo}
 use Rattle.pts_points.specs.declared.point.PointInfo.{PointInfo}
 use Rattle.pts_points.specs.Pieces.{Point}
@@ -15,21 +14,21 @@ use Rattle.pts_points.proofs.Builds.{map_length, sized}
 use Rattle.pts_points.proofs.Wholes.{good_loop}
 use Rattle.pts_steps.specs.Shown.{HasItsNumber, IsLoopOf}
 use Rattle.pts_steps.specs.Steps.{loop_points}
-use Rattle.pts_steps.proofs.LoopsShown.{shows_the_same}
 use Rattle.pts_steps.proofs.PointsOfLoops.{numbers_here}
+use Rattle.pts_lowering.specs.declared.forms.LoweredCall.{LoweredCall}
 use Rattle.pts_program.specs.declared.lists.Lists.{Lists}
 use Rattle.pts_program.specs.Globals.{globals_of}
 use Rattle.pts_program.specs.Lists.{IsProgram}
 use Rattle.pts_layout.specs.Layout.{points_before}
 use Rattle.pts_layout.proofs.Items.{all_placed}
-use Rattle.pts_loop_points.specs.LoopPoints.{ShowsLoop, info_in}
+use Rattle.pts_loop_points.specs.LoopPoints.{IsOnLine, ShowsLoop, moved}
 use Rattle.pts_loop_points.proofs.ElementArrays.{IsArray}
 use Rattle.pts_loop_points.proofs.LoopFits.{loop_fits}
-use Rattle.pts_loop_points.proofs.Loops.{IsLoopText, loop_told}
-use Rattle.pts_loop_points.proofs.Moved.{loop_moved}
+use Rattle.pts_loop_points.proofs.Loops.{IsLoopText}
+use Rattle.pts_loop_points.proofs.LoopMoves.{shown_by_text}
 use Rattle.pts_loop_points.proofs.Numbers.{globals_plain, numbers_at_last}
 
-module _ (lists : Lists) (h : IsProgram lists) (c : ℕ) (call : CallInfo) (x : loops.Loop) (told : IsLoopText (known h.script.items) lists.points c x call) where
+module _ (lists : Lists) (h : IsProgram lists) (c : ℕ) (call : CallInfo) (x : loops.Loop) (form : LoweredCall) (told : IsLoopText (known h.script.items) lists.points c x call form) where
   abbrev names : Scope
   names = globals_of lists
 
@@ -39,20 +38,23 @@ module _ (lists : Lists) (h : IsProgram lists) (c : ℕ) (call : CallInfo) (x : 
       let kept = told.kept name array in
       numbers_at_last lists h name kept.array ∙ ap (λ o. elim o [ None ↦ 0 | Some n ↦ n ]) kept.number
 
-  fits : IsLoopOf told.scope names told.source
+  pub fits : IsLoopOf told.scope names told.source
   fits = loop_fits told.scope names numbers told.source (globals_plain lists) told.ready told.lines
 
   abbrev shows : Point → PointInfo
-  shows = info_in call.item c call.first_point told.offs
+  shows y = moved call.item (Some c) call.first_point told.offs (info 0 y)
 
   abbrev listed : List PointInfo
   listed = map (info call.item) ((loop_piece told.scope told.source).points (context_of told.scope c (Loop told.source)) call.first_point told.offs)
 
+  by_text : (listed ≡ map shows (loop_points names x)) × ((k : ℕ) (y : Point) → slice_get (loop_points names x) k ≡ Some y → IsOnLine y.deed)
+  by_text = shown_by_text told.scope names told.source x call.item c call.first_point told.offs fits told.is
+
   same : map shows (loop_points names x) ≡ listed
-  same =
-      sym (loop_moved names x call.item c call.first_point told.offs)
-      ∙ (λ i. map (info call.item) ((loop_piece names (told.is i)).points (context_of names c (Loop (told.is i))) call.first_point told.offs))
-      ∙ shows_the_same told.scope names told.source call.item c call.first_point told.offs fits
+  same = sym by_text.0
+
+  pub on_lines : (k : ℕ) (y : Point) → slice_get (loop_points names x) k ≡ Some y → IsOnLine y.deed
+  on_lines = by_text.1
 
   as_many : length (loop_points names x) ≡ call.points
   as_many =
@@ -71,6 +73,3 @@ module _ (lists : Lists) (h : IsProgram lists) (c : ℕ) (call : CallInfo) (x : 
 
   pub loop_shown : ShowsLoop lists c call x
   loop_shown = record { offs = told.offs; count = as_many; shown = one_shown }
-
-pub shows_loop : (lists : Lists) (c : ℕ) (call : CallInfo) (x : loops.Loop) → IsProgram lists → slice_get lists.texts c ≡ Some (texts.Loop x) → slice_get lists.calls c ≡ Some call → ShowsLoop lists c call x
-shows_loop lists c call x h is there = loop_shown lists h c call x (loop_told lists h c x call is there)

@@ -19,7 +19,7 @@ use Rattle.pts_passes.specs.LiveOuts.{LiveOut, assigned, values_of}
 use Rattle.pts_loops.specs.declared.run.Run.{Run}
 use Rattle.pts_loops.specs.declared.turn.Turn.{Turn}
 use Rattle.pts_loops.specs.Assigning.{AreAssigned, Assigns, IsAssigning, IsThrown, all_outs, out_of, outs}
-use Rattle.pts_loops.specs.Points.{HasCells}
+use Rattle.pts_clear.specs.Showing.{HasCells}
 use Rattle.pts_loops.specs.Turns.{IsAtPosition, Keeps, Stands, accumulators, begins_with, call_in, pass_of}
 use Rattle.pts_loops.proofs.LoopTurns.{begun_there}
 

@@ -32,7 +32,7 @@ use Rattle.pts_loops.specs.declared.run.Run.{Run}
 use Rattle.pts_loops.specs.declared.turn.Turn.{Turn}
 use Rattle.pts_loops.specs.Assigning.{AreAssigned, Ends, IsThrown, all_outs, outs}
 use Rattle.pts_loops.specs.Turns.{IsAtPosition, accumulated, begins_with, call_in, pass_of}
-use Rattle.pts_loops.proofs.Singles.{single_fits}
+use Rattle.pts_elements.proofs.Singles.{single_fits}
 
 -- ---- one group
 

@@ -4,8 +4,8 @@ pub mod Ready
 pub mod LoopTurns
 pub mod Gathered
 pub mod PositionTurns
+mod Programs
 pub mod FirstTurns
 pub mod Staying
 pub mod Assigned
-pub mod Singles
 pub mod Ended

@@ -20,10 +20,11 @@ use Rattle.pts_cells.specs.WrittenCells.{WrittenCells}
 use Rattle.pts_outcomes.specs.Calls.{effect}
 use Rattle.pts_outcomes.specs.Effects.{Effect}
 use Rattle.pts_passes.specs.Passes.{call_of, cells_named, is_live_out, names, text_points}
-use Rattle.pts_loop_clear.specs.Showing.{moved}
+use Rattle.pts_loop_points.specs.LoopPoints.{moved}
 use Rattle.pts_loops.specs.declared.run.Run.{Run}
 use Rattle.pts_loops.specs.declared.turn.Turn.{Turn}
-use Rattle.pts_loops.specs.Points.{HasCells, effect_of}
+use Rattle.pts_clear.specs.Showing.{HasCells}
+use Rattle.pts_loops.specs.Points.{effect_of}
 use Rattle.pts_loops.specs.Turns.{IsAtPoint, IsReady, Stands, last, pass_of}
 use Rattle.pts_loops.proofs.Tied.{arrays_hold, effect_is}
 

@@ -32,7 +32,7 @@ use Rattle.pts_outcomes.specs.Effects.{act_effect, beside, cell_with, given, ind
 use Rattle.pts_passes.specs.Inductions.{head_values}
 use Rattle.pts_passes.specs.Passes as passes
 use Rattle.pts_passes.specs.Passes.{Pass, call_of, computed, globals, names, point_of, text_points, with_array}
-use Rattle.pts_loop_clear.specs.Showing.{IsOnLine, moved, moved_branch}
+use Rattle.pts_loop_points.specs.LoopPoints.{IsOnLine, moved, moved_branch}
 use Rattle.pts_loops.specs.Points.{act_of, effect_of, held, is_reached_behind, place_of}
 use Rattle.pts_loops.specs.Turns.{Stands}
 

@@ -43,10 +43,6 @@ put_at place value = puts (and_then (shown_place place) (λ c. beside c value))
 
 -- ---- cells
 
--- the store has the cells of these arrays
-pub record HasCells (arrays : List ArrayInfo) (store : Store) : Type 0 where
-  pub cells : (array : ℕ) → length (cells_in store array) ≡ length_at arrays array
-
 abbrev pub place_of : PointInfo → Place
 place_of point = record { array = point.array; index = Along point.line }
 

@@ -1,18 +1,15 @@
 -- How far a loop has come, position by position and at each point by point.
-use Rattle.std.specs.Prelude.{◌≡◌, ℕ, suc, ◌+◌, ◌-◌, ◌<◌, ◌≤◌, Bool, true, false, All, Option, Some, None, List, [], ◌∷◌, ◌++◌, length, map, flat_map, fold, take, set, get_or, slice_get, pos, ◌+ℤ◌, ◌*ℤ◌}
-use Rattle.pts_types.specs.declared.value.Kind.TheVariants as kinds
+use Rattle.std.specs.Prelude.{◌≡◌, ℕ, suc, ◌+◌, ◌-◌, ◌<◌, ◌≤◌, Bool, true, false, All, Option, Some, None, List, [], ◌∷◌, ◌++◌, length, map, flat_map, fold, take, set, get_or, slice_get}
 use Rattle.pts_types.specs.declared.value.Value.{Value}
-use Rattle.pts_rules.specs.Known.{holds}
 use Rattle.pts_code.specs.declared.function.FunctionInfo.{FunctionInfo}
+use Rattle.pts_points.specs.declared.point.PointInfo.{PointInfo}
 use Rattle.pts_points.specs.Pieces.{Point}
 use Rattle.pts_points.specs.Points.{info}
-use Rattle.pts_lowering.specs.declared.forms.CellIndex.{CellIndex}
-use Rattle.pts_lowering.specs.declared.forms.InitialValue.{InitialValue}
-use Rattle.pts_lowering.specs.declared.forms.InitialValue.TheVariants as initials
 use Rattle.pts_lowering.specs.declared.forms.LoopClause.{LoopClause}
 use Rattle.pts_lowering.specs.declared.forms.LoopClause.TheVariants as clauses
 use Rattle.pts_program.specs.declared.info.ArrayInfo.{ArrayInfo}
-use Rattle.pts_program.specs.Ranges.{IsInRange, length_at}
+use Rattle.pts_program.specs.Ranges.{IsInRange}
+use Rattle.pts_steps.specs.declared.step.Step.{Step}
 use Rattle.pts_steps.specs.Steps.{AreSteps}
 use Rattle.pts_store.specs.Overlays.{Layer}
 use Rattle.pts_store.specs.Stores.{Store, accepted, put_cell}
@@ -30,7 +27,7 @@ use Rattle.pts_outcomes.specs.Effects.{Effect}
 use Rattle.pts_passes.specs.Inductions.{head_values, initial_in, live_value}
 use Rattle.pts_passes.specs.LiveOuts.{combining, contributions}
 use Rattle.pts_passes.specs.Passes.{Pass, call_of, names, text_points}
-use Rattle.pts_loop_clear.specs.Showing.{IsOnLine, moved}
+use Rattle.pts_loop_points.specs.LoopPoints.{HasClauseCell, HasIndices, IsOnLine, moved}
 use Rattle.pts_loops.specs.declared.run.Run.{Run}
 use Rattle.pts_loops.specs.declared.turn.Turn.{Turn}
 
@@ -40,29 +37,20 @@ use Rattle.pts_loops.specs.declared.turn.Turn.{Turn}
 abbrev pub pass_of : Run → Pass
 pass_of run = record { text = run.text.now; arrays = run.arrays.now; functions = run.functions.now; head = run.head.now }
 
--- the cell of a clause is one of these arrays
-abbrev pub HasItsCell : List ArrayInfo → CellIndex → Type 0
-HasItsCell arrays cell = cell.index < length_at arrays cell.array
-
-abbrev pub HasInitialCell : List ArrayInfo → InitialValue → Type 0
-HasInitialCell arrays (initials.Value value) = Unit {0}
-HasInitialCell arrays (initials.Cell cell) = HasItsCell arrays cell
-
-abbrev pub HasClauseCell : List ArrayInfo → LoopClause → Type 0
-HasClauseCell arrays (clauses.Reduction x) = HasItsCell arrays x.cell
-HasClauseCell arrays (clauses.Induction x) = HasInitialCell arrays x.initial
-
--- The steps are those of the points of its text, and the points of the lists show these, on lines in their arrays; the index
--- has a value at each position, and the cells of the clauses are there.
-pub record IsReady (run : Run) : Type 0 where
-  pub steps : AreSteps (names (pass_of run)) run.text.now (text_points (pass_of run)) run.steps.now
+-- What a loop is told of its program: these steps are those of the points of its text, and these points, shown behind so many of its
+-- item, are its points, on lines in its arrays. The index has a value at each position, and the cells of the clauses are there.
+pub record IsReadyAs (pass : Pass) (call first_point : ℕ) (done : List Step) (infos : List PointInfo) : Type 0 where
+  pub steps : AreSteps (names pass) pass.text (text_points pass) done
   pub item : ℕ
   pub offs_before : ℕ
-  pub points : run.points.now ≡ map (λ x. moved item (Some run.call) run.first_point offs_before (info 0 x)) (text_points (pass_of run))
-  pub lines : (k : ℕ) (x : Point) → slice_get (text_points (pass_of run)) k ≡ Some x → IsOnLine x.deed
-  pub range : All (IsInRange run.arrays.now) run.points.now
-  pub indices : (p : ℕ) → p < run.head.now.positions → holds kinds.I64 (run.head.now.first +ℤ pos p *ℤ run.head.now.step) ≡ true
-  pub clause_cells : All (HasClauseCell run.arrays.now) run.head.now.clauses
+  pub points : infos ≡ map (λ x. moved item (Some call) first_point offs_before (info 0 x)) (text_points pass)
+  pub lines : (k : ℕ) (x : Point) → slice_get (text_points pass) k ≡ Some x → IsOnLine x.deed
+  pub range : All (IsInRange pass.arrays) infos
+  pub indices : HasIndices pass.head
+  pub clause_cells : All (HasClauseCell pass.arrays) pass.head.clauses
+
+abbrev pub IsReady : Run → Type 0
+IsReady run = IsReadyAs (pass_of run) run.call run.first_point run.steps.now run.points.now
 
 -- ---- accumulators
 

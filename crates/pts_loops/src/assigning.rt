@@ -5,8 +5,9 @@ ghost use Rattle.std.specs.Option.{option_to_list};
 ghost use Rattle.pts_program.specs.Ranges.{length_at};
 ghost use Rattle.pts_store.specs.Stores.{Store};
 ghost use Rattle.pts_loops.specs.Assigning as spec;
-ghost use Rattle.pts_loops.specs.Points.{HasCells};
-ghost use Rattle.pts_loops.specs.Turns.{HasClauseCell, IsAtPosition, IsReady, Keeps, begins_with};
+ghost use Rattle.pts_clear.specs.Showing.{HasCells};
+ghost use Rattle.pts_loop_points.specs.LoopPoints.{HasClauseCell};
+ghost use Rattle.pts_loops.specs.Turns.{IsAtPosition, IsReady, Keeps, begins_with};
 
 use crate::run::Run;
 use crate::turn::Turn;

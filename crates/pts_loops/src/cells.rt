@@ -8,7 +8,7 @@ ghost use Rattle.pts_outcomes.specs.Effects.{place_at};
 ghost use Rattle.pts_program.specs.Ranges.{IsInRange, length_at};
 ghost use Rattle.pts_store.specs.Stores.{IsCell, Store};
 ghost use Rattle.pts_loops.specs.Points as spec;
-ghost use Rattle.pts_loops.specs.Points.{HasCells};
+ghost use Rattle.pts_clear.specs.Showing.{HasCells};
 
 use crate::run::Run;
 use pts_affine::Line;

@@ -6,14 +6,14 @@ ghost use Rattle.pts_passes.specs.Ends.{EndsAlong, EndsAlongAll, PermitsLoop};
 ghost use Rattle.pts_passes.specs.Inductions.{all_stay};
 ghost use Rattle.pts_passes.specs.Laws.{IsFree};
 ghost use Rattle.pts_loops.specs.Answers.{end_of, writes_of};
-ghost use Rattle.pts_loops.specs.Points.{HasCells};
+ghost use Rattle.pts_clear.specs.Showing.{HasCells};
 ghost use Rattle.pts_loops.specs.Turns.{IsAtPosition, IsReady, call_in, pass_of};
 
 use crate::answers::LoopAnswer;
-use crate::groups::single_grouping;
 use crate::run::Run;
 use crate::turn::Turn;
 use pts_boards::{Gate, Pool};
+use pts_elements::single_grouping;
 use pts_store::View;
 use pts_types::NoMemory;
 use sqlite_items::Items;
@@ -66,9 +66,8 @@ impl Run<'_> {
         Ok(answer)
     }
 
-    /// Runs the loop over a view ([parallel.alg.for.loop]): what its evaluations write, and what its reductions and inductions leave in
-    /// the cells that its clauses name. Without conflict it ends so along each order that its policy allows. The view is only read.
-    pub fn run<V: View, G: Gate>(
+    /// Runs the loop over a view. Without conflict it ends so along each order that its policy allows.
+    pub(crate) fn run<V: View, G: Gate>(
         &self,
         alloc: Global,
         gate: &G,

@@ -5,7 +5,7 @@ ghost use Rattle.pts_code.specs.Codes.{sight_of};
 ghost use Rattle.pts_code.specs.Outcomes.{operate};
 ghost use Rattle.pts_program.specs.Ranges.{IsInRange};
 ghost use Rattle.pts_loops.specs.Points as spec;
-ghost use Rattle.pts_loops.specs.Points.{HasCells};
+ghost use Rattle.pts_clear.specs.Showing.{HasCells};
 
 use crate::cells::read;
 use crate::effect::{Effect, notes_value, puts};

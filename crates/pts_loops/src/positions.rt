@@ -1,7 +1,7 @@
 //! Positions, one after the other, and at each its points.
 
 ghost use Rattle.std.specs.Prelude.{◌≡◌, ◌<◌, ◌≤◌, ◌+◌, IfOk};
-ghost use Rattle.pts_loops.specs.Points.{HasCells};
+ghost use Rattle.pts_clear.specs.Showing.{HasCells};
 ghost use Rattle.pts_loops.specs.Turns.{Goes, IsAtPoint, IsAtPosition, IsReady, last};
 
 use crate::run::Run;

@@ -10,7 +10,7 @@ use pts_tree::Loop;
 /// A loop of a program: its text without constants, its head in numbers, what its points compute, and how the lists of the program
 /// show them; and the arrays and functions of the program.
 #[derive(Clone, Copy)]
-pub struct Run<'a> {
+pub(crate) struct Run<'a> {
     /// Its number among the calls.
     pub call: u32,
     pub text: &'a Loop,

@@ -3,8 +3,10 @@
 ghost use Rattle.std.specs.Prelude.{◌≡◌, ℕ, All, IfOk, None, count_by, length, map, replicate};
 ghost use Rattle.pts_store.specs.Stores.{IsCell};
 ghost use Rattle.pts_passes.specs.Inductions as spec;
-ghost use Rattle.pts_loops.specs.Points.{HasCells, is_live_out};
-ghost use Rattle.pts_loops.specs.Turns.{HasClauseCell, IsAtPosition, IsReady, begins_with, first_accumulator};
+ghost use Rattle.pts_clear.specs.Showing.{HasCells};
+ghost use Rattle.pts_loops.specs.Points.{is_live_out};
+ghost use Rattle.pts_loop_points.specs.LoopPoints.{HasClauseCell};
+ghost use Rattle.pts_loops.specs.Turns.{IsAtPosition, IsReady, begins_with, first_accumulator};
 
 use crate::run::Run;
 use crate::turn::Turn;

@@ -2,7 +2,8 @@
 
 ghost use Rattle.std.specs.Prelude.{◌≡◌, [], IfOk};
 
-use crate::{LoopAnswer, Run};
+use crate::LoopAnswer;
+use crate::run::Run;
 use pts_boards::{NoGate, Pool};
 use pts_code::Codes;
 use pts_lowering::LoweredLoop;

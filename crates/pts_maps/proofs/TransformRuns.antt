@@ -33,7 +33,8 @@ use Rattle.pts_outcomes.specs.Laws.{IsClear}
 use Rattle.pts_outcomes.proofs.Orders.{index_order_is_allowed, orders_agree}
 use Rattle.pts_outcomes.proofs.Turns.{begun, ended}
 use Rattle.pts_eval.specs.Maps.{for_each_at, for_each_in, transform_at, transform_in, EndsAlongAll, EndsWith, MapEnd, PermitsAnswer, PermitsTransform, Terminated}
-use Rattle.pts_eval.specs.Cells.{range_in, start_cells, start_store}
+use Rattle.pts_eval.specs.Cells.{range_in, start_store}
+use Rattle.pts_eval.proofs.Starts.{start_length}
 use Rattle.pts_eval.specs.Sums.{given_by}
 use Rattle.pts_elements.proofs.RangeCells.{length-range}
 use Rattle.pts_maps.specs.declared.answers.MapAnswer.{MapAnswer}
@@ -139,12 +140,6 @@ in_order functions store call end writes h = record {
   allowed = index_order_is_allowed (keeps_order call.policy) (transform_call functions store call);
   ends = h;
 }
-
--- the arrays of a program, as it begins
-start_length : (arrays : List ArrayInfo) (n : ℕ) → length (cells_in (start_cells arrays) n) ≡ length_at arrays n
-start_length [] n = refl
-start_length (a ∷ as') zero = refl
-start_length (a ∷ as') (suc n) = start_length as' n
 
 a_transform : (o : Option LoweredCall) (x : Transform) → option_and_then transform_in o ≡ Some x → o ≡ Some (lowered.Transform x)
 a_transform None x e = absurd cc

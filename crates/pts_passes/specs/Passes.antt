@@ -1,8 +1,11 @@
 -- A pass of a loop as a call: its evaluations are the points of its body at its positions ([parallel.alg.for.loop]).
-use Rattle.std.specs.Prelude.{ℕ, ◌-◌, Bool, true, false, count_by, Option, Some, List, [], ◌∷◌, length, map, fold, slice_get}
+use Rattle.std.specs.Option.{option_and_then}
+use Rattle.std.specs.Prelude.{ℕ, ◌-◌, Bool, true, false, count_by, Option, Some, None, List, [], ◌∷◌, length, map, fold, slice_get}
 use Rattle.pts_types.specs.declared.operation.Policy.{Policy}
 use Rattle.pts_tree.specs.declared.loops.Loop as loops
 use Rattle.pts_rules.specs.Known.{Scope}
+use Rattle.pts_constants.specs.declared.texts.CallText.{CallText}
+use Rattle.pts_constants.specs.declared.texts.CallText.TheVariants as call_texts
 use Rattle.pts_code.specs.declared.function.FunctionInfo.{FunctionInfo}
 use Rattle.pts_code.specs.Codes.{Sight}
 use Rattle.pts_code.specs.Compiling.{scope_of_names}
@@ -12,8 +15,11 @@ use Rattle.pts_code.specs.Values.{Array, Environment}
 use Rattle.pts_points.specs.Pieces as texts
 use Rattle.pts_points.specs.Pieces.{Deed, LetPoint}
 use Rattle.pts_points.specs.Points.{info}
+use Rattle.pts_lowering.specs.declared.forms.LoweredCall.{LoweredCall}
+use Rattle.pts_lowering.specs.declared.forms.LoweredCall.TheVariants as lowered
 use Rattle.pts_lowering.specs.declared.forms.LoweredLoop.{LoweredLoop}
 use Rattle.pts_program.specs.declared.info.ArrayInfo.{ArrayInfo}
+use Rattle.pts_program.specs.declared.lists.Lists.{Lists}
 use Rattle.pts_steps.specs.Steps.{loop_points, value_at}
 use Rattle.pts_store.specs.Stores.{Store}
 use Rattle.pts_orders.specs.Evaluations.{Evaluation}
@@ -31,6 +37,33 @@ pub record Pass : Type 0 where
   pub arrays : List ArrayInfo
   pub functions : List FunctionInfo
   pub head : LoweredLoop
+
+-- the text of a loop, and its head in numbers
+abbrev pub text_in : CallText → Option loops.Loop
+text_in (call_texts.Loop x) = Some x
+text_in (call_texts.Call x) = None
+
+abbrev pub head_in : LoweredCall → Option LoweredLoop
+head_in (lowered.Loop x) = Some x
+head_in call = None
+
+-- those of the call of this number, if it is a loop
+abbrev pub text_at : Lists → ℕ → Option loops.Loop
+text_at lists number = option_and_then text_in (slice_get lists.texts number)
+
+abbrev pub head_at : Lists → ℕ → Option LoweredLoop
+head_at lists number = option_and_then head_in (slice_get lists.lowered_calls number)
+
+abbrev pub pass_with : Lists → Option loops.Loop → Option LoweredLoop → Option Pass
+pass_with lists None head = None
+pass_with lists (Some text) None = None
+pass_with lists (Some text) (Some head) = Some (record { text = text; arrays = lists.arrays; functions = lists.functions; head = head })
+
+-- the loop of this number, if the call is one
+abbrev pub pass_at : Lists → ℕ → Option Pass
+pass_at lists number = pass_with lists (text_at lists number) (head_at lists number)
+
+-- ---- names
 
 abbrev pub with_array : Environment → ArrayInfo → Environment
 with_array env a = (a.name, Array a.kind) ∷ env

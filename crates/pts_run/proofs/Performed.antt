@@ -15,14 +15,14 @@ use Rattle.pts_calls.specs.declared.answers.CallAnswer.{CallAnswer}
 use Rattle.pts_calls.specs.declared.answers.CallAnswer.TheVariants as answers
 use Rattle.pts_calls.specs.Answers.{IsCallAnswer}
 
-module _ (pool : Pool) (lists : Lists) (before after : Store) where
+module _ (pool : Pool) (lists : Lists) (number : ℕ) (before after : Store) where
   -- a call that gave a result
   pub gave : (own : Option LoweredCall) (form : LoweredCall) (answer : CallAnswer) (given : CallResult) (writes : Writes) → own ≡ Some form → answer ≡ answers.Gave given writes → after ≡ accepted before writes
-      → IfSome own (λ f. IsCallAnswer pool lists.functions f before answer) → IsSomeAnd own (λ call. GivesResult pool lists call before (Called form given) after)
+      → IfSome own (λ f. IsCallAnswer pool lists number f before answer) → IsSomeAnd own (λ call. GivesResult pool lists number call before (Called form given) after)
   gave own form answer given writes is e new h =
-      let own_answer = subst (λ o. IfSome o (λ f. IsCallAnswer pool lists.functions f before answer)) is h in
-      let gives = subst (IsCallAnswer pool lists.functions form before) e own_answer in
-      subst (λ o. IsSomeAnd o (λ call. GivesResult pool lists call before (Called form given) after)) (sym is) (refl, subst (CallGives pool lists.functions form before given) (sym new) gives)
+      let own_answer = subst (λ o. IfSome o (λ f. IsCallAnswer pool lists number f before answer)) is h in
+      let gives = subst (IsCallAnswer pool lists number form before) e own_answer in
+      subst (λ o. IsSomeAnd o (λ call. GivesResult pool lists number call before (Called form given) after)) (sym is) (refl, subst (CallGives pool lists number form before given) (sym new) gives)
 
 -- an array that was printed
 pub printed : (pool : Pool) (lists known : Lists) (before : Store) (s : StatementInfo) (array : ℕ) (name : List ℕ) (cells : List Value) → s ≡ Print array → known ≡ lists → name ≡ name_at known array

@@ -14,7 +14,7 @@ ghost use Rattle.pts_run.specs.Text.{accepted_line, refusal_line};
 use crate::lines::{push_called, push_printed, push_refusal, push_terminated};
 use crate::refusal::Refusal;
 use pts_boards::{Gate, Pool};
-use pts_calls::{CallAnswer, built_call, run_call};
+use pts_calls::{CallAnswer, call_form, run_call};
 use pts_conflict::Cleared;
 use pts_eval::{RunState, Store, start_store};
 use pts_io::{Sink, SinkFault, write_all};
@@ -175,7 +175,7 @@ impl<R: Threads + Sync, G: Gate> Runner<'_, R, G> {
         ensures arrays { OnOk result (SameShape (start_store self.now.cleared.now) store.new) }
     {
         writing_keeps_the_shape();
-        let form = built_call(self.cleared, call);
+        let form = call_form(self.cleared, call);
         match run_call(
             self.rt,
             self.alloc,

@@ -13,7 +13,7 @@ use Rattle.pts_groupings.proofs.Places.{map-range_same}
 use Rattle.pts_sums.specs.Folds.{with_item, with_items, outcome_in}
 use Rattle.pts_sums.specs.Places.{outcomes_after, places_after, start_of}
 use Rattle.pts_sums.proofs.GroupFolds.{begun, folded_as}
-use Rattle.pts_sums.proofs.Singles.{number_more}
+use Rattle.pts_elements.proofs.Singles.{number_more}
 
 -- ---- numbers in a row
 

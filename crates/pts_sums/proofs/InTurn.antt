@@ -22,7 +22,7 @@ use Rattle.pts_eval.specs.Sums.{elements_in_turn, with_places}
 use Rattle.pts_lowering.specs.declared.forms.CellRange.{CellRange}
 use Rattle.pts_sums.proofs.ChunkPlaces.{started}
 use Rattle.pts_sums.proofs.PutPlaces.{put_both, put_first, put_none}
-use Rattle.pts_sums.proofs.Singles.{number_more}
+use Rattle.pts_elements.proofs.Singles.{number_more}
 
 reach_below : (scan : Scan) (p : ℕ) → reach scan p ≤ p + 1
 reach_below Inclusive p = omega arith

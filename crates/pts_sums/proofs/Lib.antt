@@ -7,5 +7,4 @@ pub mod InTurn
 pub mod Items
 pub mod PutPlaces
 pub mod ScanItems
-pub mod Singles
 pub mod Stretches

@@ -7,7 +7,6 @@
 mod answers;
 mod folds;
 mod gathered;
-mod groupings;
 mod groups;
 mod laws;
 mod operations;

@@ -9,14 +9,13 @@ ghost use Rattle.pts_store.specs.Stores.{Store};
 ghost use Rattle.pts_sums.specs.Answers.{value_in, IsSumAnswer};
 
 use crate::answers::{Outcome, SumAnswer};
-use crate::groupings::single_grouping;
 use crate::groups::Chunked;
 use crate::operations::{Operations, element_item, pair_item};
 use crate::run::Run;
 use crate::terms::{Combining, Terms};
 use pts_boards::{Gate, Pool};
 use pts_conflict::Cleared;
-use pts_elements::{count_cells, read_element, write_into};
+use pts_elements::{count_cells, read_element, single_grouping, write_into};
 use pts_lowering::{LoweredCall, Reduction};
 use pts_program::Program;
 use pts_store::View;

@@ -24,9 +24,9 @@ impl Gate for Counter {
     }
 }
 
-// Two calls of three chunks each, and a search that ends in its second chunk.
-const THREE_CALLS: &str =
-    "pts 1; array a: u64[5] = iota 0 step 1; fn next(x: u64) -> u64 = x + 1; fn three(x: u64) -> bool = x == 3; for_each par a[0..5] next; reduce par a[0..5] init 0 plus; find_if par a[0..5] three;";
+// Three calls of three chunks each, a loop among them, and a search that ends in its second chunk.
+const FOUR_CALLS: &str =
+    "pts 1; array a: u64[5] = iota 0 step 1; fn next(x: u64) -> u64 = x + 1; fn three(x: u64) -> bool = x == 3; for_each par a[0..5] next; reduce par a[0..5] init 0 plus; find_if par a[0..5] three; for_loop par i = 0 to 5 { a[i] = a[i] + 1; }";
 
 #[test]
 fn each_chunk_passes_the_gate_once(rt: HostRuntime) -> Result<(), Fail> {
@@ -35,14 +35,14 @@ fn each_chunk_passes_the_gate_once(rt: HostRuntime) -> Result<(), Fail> {
         chunks: AtomicU64::new(0),
         numbers: AtomicU64::new(0),
     };
-    let mut source = MemorySource::new(THREE_CALLS.as_bytes().to_vec(alloc)?, Vec::new(alloc));
+    let mut source = MemorySource::new(FOUR_CALLS.as_bytes().to_vec(alloc)?, Vec::new(alloc));
     let mut sink = MemorySink::new(alloc, 1000, Vec::new(alloc))?;
     let words = words(alloc, &["run", "--chunk", "2"])?;
     let status = run_words(&rt, alloc, &words, &mut source, &mut sink, &gate);
     assert_eq!(rt; status, Status::Done);
-    let text = "1: for_each\n2: reduce 15\n3: find_if 2\n";
+    let text = "1: for_each\n2: reduce 15\n3: find_if 2\n4: for_loop\n";
     assert_eq!(rt; sink.bytes(), text.as_bytes());
-    assert_eq!(rt; gate.chunks.load(SeqCst), 3 + 3 + 2);
-    assert_eq!(rt; gate.numbers.load(SeqCst), (1 + 2) + (1 + 2) + 1);
+    assert_eq!(rt; gate.chunks.load(SeqCst), 3 + 3 + 2 + 3);
+    assert_eq!(rt; gate.numbers.load(SeqCst), (1 + 2) + (1 + 2) + 1 + (1 + 2));
     Ok(())
 }

@@ -1,9 +1,9 @@
 use Rattle.std.proofs.Common.{◌+◌, ◌≤◌, None, length, subst, sym, ap, ◌∙◌, arith}
 use Rattle.std.specs.Prelude.{All}
-use Rattle.pts_layout.specs.Layout.{points_before}
-use Rattle.pts_conflict.specs.Search.{AreByItem, FindsFirst, IsFit, SomeForks, rank_of}
+use Rattle.pts_layout.specs.Layout.{AreByItem, points_before}
+use Rattle.pts_layout.proofs.CallParts.{points_by_item}
+use Rattle.pts_conflict.specs.Search.{FindsFirst, IsFit, SomeForks, rank_of}
 use Rattle.pts_conflict.proofs.PartPairs.{enough, in_block_of, none_in_empty, order, points_fit}
-use Rattle.pts_conflict.proofs.ProgramLaws.{by_item}
 use Rattle.pts_conflict.proofs.Ranges.{rest_part, slice_is}
 use Rattle.pts_conflict.proofs.blocks.least_in.Goals as goal
 
@@ -15,7 +15,7 @@ returns-then-block-eq0 c =
     in_block_of lists c.keeps_its_promises.ensures c.args.number block at None (none_in_empty lists c.keeps_its_promises.ensures c.args.number block at c.if-block-eq0.true)
 
 pub points_before-start-requires : goal.points_before-start-requires
-points_before-start-requires c = subst AreByItem (sym c.points.ensures) (by_item c.args.program.now c.keeps_its_promises.ensures)
+points_before-start-requires c = subst AreByItem (sym c.points.ensures) (points_by_item c.args.program.now c.keeps_its_promises.ensures)
 
 pub least_of_body-requires-clause-order : goal.least_of_body-requires-clause-order
 least_of_body-requires-clause-order c =

@@ -1,12 +1,13 @@
-use Rattle.std.proofs.Common.{◌+◌, ◌≤◌, ◌^◌, get_or, length, subst, sym, ap, refl, ◌∙◌, arith}
-use Rattle.std.specs.Prelude.{All, slice_range}
+use Rattle.std.proofs.Common.{◌≤◌, ◌^◌, List, get_or, subst, sym, refl, arith}
+use Rattle.std.specs.Prelude.{All}
 use Rattle.pts_types.specs.declared.operation.Policy.TheVariants as policies
 use Rattle.pts_points.specs.declared.point.CallInfo.{CallInfo}
 use Rattle.pts_program.proofs.MatchedCalls.{calls_counted}
-use Rattle.pts_layout.specs.Layout.{points_before}
-use Rattle.pts_conflict.specs.Search.{Across, AreByItem, FindsFirst, IsFit, PairInCall, rank_of}
-use Rattle.pts_conflict.proofs.CallPairs.{found_in_call, none_in_order, none_without_points, own_fits, own_within}
-use Rattle.pts_conflict.proofs.ProgramLaws.{by_item, few}
+use Rattle.pts_points.specs.declared.point.PointInfo.{PointInfo}
+use Rattle.pts_layout.specs.Layout.{points_of_call}
+use Rattle.pts_conflict.specs.Search.{Across, FindsFirst, IsFit, PairInCall, rank_of}
+use Rattle.pts_conflict.proofs.CallPairs.{found_in_call, none_in_order, own_fits}
+use Rattle.pts_conflict.proofs.ProgramLaws.{few}
 use Rattle.pts_conflict.proofs.Ranges.{all_at, slice_is}
 use Rattle.pts_conflict.proofs.calls.least_in.Goals as goal
 
@@ -20,27 +21,6 @@ returns-then-runs_in_order c =
     let call : CallInfo = get_or c.calls.result.now c.args.number nowhere in
     let at = slice_is lists.calls c.calls.result.now c.args.number call nowhere c.calls.ensures c.requires refl in
     none_in_order lists c.keeps_its_promises.ensures c.args.number call at (c.runs_in_order.ensures.yes c.if-runs_in_order.true)
-
-pub returns-then-call-eq0 : goal.returns-then-call-eq0
-returns-then-call-eq0 c =
-    let lists = c.args.program.now in
-    let call : CallInfo = get_or c.calls.result.now c.args.number nowhere in
-    let at = slice_is lists.calls c.calls.result.now c.args.number call nowhere c.calls.ensures c.requires refl in
-    none_without_points lists c.keeps_its_promises.ensures c.args.number call at c.if-call-eq0.true
-
-pub points_before-requires : goal.points_before-requires
-points_before-requires c = subst AreByItem (sym c.points.ensures) (by_item c.args.program.now c.keeps_its_promises.ensures)
-
-pub part-points-requires : goal.part-points-requires
-part-points-requires c =
-    let lists = c.args.program.now in
-    let call : CallInfo = get_or c.calls.result.now c.args.number nowhere in
-    let at = slice_is lists.calls c.calls.result.now c.args.number call nowhere c.calls.ensures c.requires refl in
-    let begin = c.points_before.ensures ∙ ap (λ xs. points_before xs call.item) c.points.ensures in
-    let some = c.if-call-eq0.false in
-    let within = own_within lists c.keeps_its_promises.ensures c.args.number call at (omega (arith, some)) in
-    let size = ap length c.points-2.ensures in
-    omega (arith, begin, within, size)
 
 pub is_loop-requires : goal.is_loop-requires
 is_loop-requires c = let h = c.requires in let size = (calls_counted c.args.program.now c.keeps_its_promises.ensures).1 in omega (arith, h, size)
@@ -57,27 +37,21 @@ least_across-requires-clause-firsts c =
     let lists = c.args.program.now in
     let call : CallInfo = get_or c.calls.result.now c.args.number nowhere in
     let at = slice_is lists.calls c.calls.result.now c.args.number call nowhere c.calls.ensures c.requires refl in
-    let begin = c.points_before.ensures ∙ ap (λ xs. points_before xs call.item) c.points.ensures in
-    let own = c.part-points.ensures ∙ (λ i. slice_range (c.points-2.ensures i) (begin i + call.first_point) (begin i + call.first_point + call.points)) in
-    subst (All IsFit) (sym own) (own_fits lists c.keeps_its_promises.ensures c.args.number call at)
+    subst (All IsFit) (sym (c.points_of_call-points.ensures call at)) (own_fits lists c.keeps_its_promises.ensures c.args.number call at)
 
 pub least_across-requires-clause-seconds : goal.least_across-requires-clause-seconds
 least_across-requires-clause-seconds c =
     let lists = c.args.program.now in
     let call : CallInfo = get_or c.calls.result.now c.args.number nowhere in
     let at = slice_is lists.calls c.calls.result.now c.args.number call nowhere c.calls.ensures c.requires refl in
-    let begin = c.points_before.ensures ∙ ap (λ xs. points_before xs call.item) c.points.ensures in
-    let own = c.part-points.ensures ∙ (λ i. slice_range (c.points-2.ensures i) (begin i + call.first_point) (begin i + call.first_point + call.points)) in
-    subst (All IsFit) (sym own) (own_fits lists c.keeps_its_promises.ensures c.args.number call at)
+    subst (All IsFit) (sym (c.points_of_call-points.ensures call at)) (own_fits lists c.keeps_its_promises.ensures c.args.number call at)
 
 pub returns : goal.returns
 returns c =
     let lists = c.args.program.now in
     let call : CallInfo = get_or c.calls.result.now c.args.number nowhere in
     let at = slice_is lists.calls c.calls.result.now c.args.number call nowhere c.calls.ensures c.requires refl in
-    let begin = c.points_before.ensures ∙ ap (λ xs. points_before xs call.item) c.points.ensures in
-    let own = c.part-points.ensures ∙ (λ i. slice_range (c.points-2.ensures i) (begin i + call.first_point) (begin i + call.first_point + call.points)) in
+    let own : List PointInfo = points_of_call lists.points call in
     found_in_call lists c.keeps_its_promises.ensures c.args.number call at c.least_across.result (c.runs_in_order.ensures.no c.if-runs_in_order.false)
-    (subst (λ b. FindsFirst (Across (PairInCall c.args.number call b) (slice_range lists.points (points_before lists.points call.item + call.first_point) (points_before lists.points call.item + call.first_point + call.points))
-    (slice_range lists.points (points_before lists.points call.item + call.first_point) (points_before lists.points call.item + call.first_point + call.points))) rank_of c.least_across.result) c.is_loop.ensures
-    (subst (λ ps. FindsFirst (Across (PairInCall c.args.number call c.is_loop.result) ps ps) rank_of c.least_across.result) own c.least_across.ensures))
+    (subst (λ b. FindsFirst (Across (PairInCall c.args.number call b) own own) rank_of c.least_across.result) c.is_loop.ensures
+    (subst (λ ps. FindsFirst (Across (PairInCall c.args.number call c.is_loop.result) ps ps) rank_of c.least_across.result) (c.points_of_call-points.ensures call at) c.least_across.ensures))

@@ -1,6 +1,6 @@
 use Rattle.std.proofs.Common.{ap, arith, length, subst, sym, ◌∙◌}
 use Rattle.std.specs.Prelude.{All}
-use Rattle.pts_loops.specs.Turns.{HasClauseCell}
+use Rattle.pts_loop_points.specs.LoopPoints.{HasClauseCell}
 use Rattle.pts_loops.proofs.Assigned.{all_assigned, assigned_more, assigned_thrown, assigning}
 use Rattle.pts_loops.proofs.run.Run.assign.Goals as goal
 

@@ -3,7 +3,7 @@ use Rattle.pts_groupings.specs.Chunks.{chunk_count, single_group}
 use Rattle.pts_groupings.specs.Sums.{sum_of}
 use Rattle.pts_store.specs.Steps.{AreOf}
 use Rattle.pts_eval.specs.Sums.{combining, items_in, steps_into}
-use Rattle.pts_sums.proofs.Singles.{single_fits}
+use Rattle.pts_elements.proofs.Singles.{single_fits}
 use Rattle.pts_sums.proofs.run.Run.reduce.Goals as goal
 
 pub sum-sum-requires-clause-grouping : goal.sum-sum-requires-clause-grouping

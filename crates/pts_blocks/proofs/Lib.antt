@@ -1,0 +1,10 @@
+pub mod Alone
+pub mod Causes
+pub mod Changing
+pub mod Deep
+pub mod Ends
+pub mod Examples
+pub mod Framing
+pub mod Joining
+pub mod Settled
+pub mod Stated
