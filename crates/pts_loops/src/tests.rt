@@ -69,9 +69,7 @@ fn a_loop_without_statements_is_written(rt: HostRuntime) -> Result<(), Fail> {
         arrays: &[],
         functions: &functions,
     };
-    let Some(pool) = Pool::new(2, 2) else {
-        return Ok(());
-    };
+    let pool = Pool::new(2, 2).ok_or("no pool")?;
     let answer = run.run(alloc, &NoGate, pool, &store)?;
     assert_eq!(rt; groups(&answer), Some(1));
     Ok(())
